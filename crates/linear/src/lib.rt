@@ -1,0 +1,1 @@
+// The linear theory: each function states one theorem.

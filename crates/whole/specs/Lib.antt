@@ -1,0 +1,4 @@
+pub mod Lists
+pub mod Sums
+pub mod Tests
+pub mod Gcd
