@@ -1,13 +1,16 @@
 -- The least common multiple.
-use mathlib.Core.Path.{_≡_, refl, sym, ap, _∙_, subst}
+use mathlib.Core.Path.{_≡_, sym, ap, _∙_, subst}
 use mathlib.Core.Logic.{inl}
-use mathlib.Core.Bool.{Bool, true, false}
-use Prim.Native.Nat.{ℕ, zero, suc, _*_, _/_, _≤_, _<_, _∣_}
+use mathlib.Core.List.{[], _∷_}
+use Prim.Native.Nat.{ℕ, zero, suc, _*_, _/_, _<_, _∣_}
 use native.Mathlib.Omega.{arith}
 use native.Mathlib.Nat.{dvd-trans, dvd-zero, dvd-mul-left, dvd-mul-right, mul-dvd-mul-left, mul-dvd-mul-right, dvd-of-mul-dvd-mul-left, dvd-of-mul-dvd-mul-right, le-of-dvd, pos-of-dvd-of-pos, mul-pos, mul-comm, mul-assoc, mul-right-comm, div-mul-cancel, mul-div-cancel'}
+use lib.IntN.{ℤ, pos, natAbs, _*ℤ_}
+use lib.Signed.{quotZ}
 use Rattle.whole.specs.Gcd.{gcd, lcm}
 use Rattle.whole.specs.Laws.{LeastMultiple}
-use Rattle.whole.proofs.Divisors.{gcd-left, gcd-right, gcd-greatest, gcd-above}
+use Rattle.whole.proofs.Ring.{v, _⊗_, ring}
+use Rattle.whole.proofs.Divisors.{gcd-left, gcd-right, gcd-greatest, gcd-above, exact}
 
 -- the multiple times the divisor is the product
 pub lcm-gcd : (a b : ℕ) → lcm a b * gcd a b ≡ a * b
@@ -72,3 +75,10 @@ lcm-is a b = record {
   above = lcm-above a b;
   least = λ k h p q. le-of-dvd h (lcm-least a b k p q);
 }
+
+-- Dividing p and g by their divisor h gives p′ and g′. Where p′ divides l, the multiplier (l ÷ p′) × g′ solves p × x = l × g.
+pub multiplier : (p h l : ℕ) (g : ℤ) → h ∣ p → h ∣ natAbs g → (p / h) ∣ l → pos p *ℤ (pos (l / (p / h)) *ℤ quotZ g (pos h)) ≡ pos l *ℤ g
+multiplier p h l g hp hg pl =
+    ap (λ (x : ℕ). pos x *ℤ (pos (l / (p / h)) *ℤ quotZ g (pos h))) (sym (mul-div-cancel' h hp))
+    ∙ ring (pos h ∷ pos (p / h) ∷ pos (l / (p / h)) ∷ quotZ g (pos h) ∷ []) (v 0 ⊗ v 1 ⊗ (v 2 ⊗ v 3)) (v 1 ⊗ v 2 ⊗ (v 0 ⊗ v 3)) tt
+    ∙ (λ t. pos (mul-div-cancel' (p / h) pl t) *ℤ exact h g hg t)

@@ -6,7 +6,7 @@ use Prim.Native.Nat.{ℕ, zero, suc}
 use native.Mathlib.Omega.{arith}
 use lib.Dec.{T}
 use lib.ListN.{getD}
-use lib.IntN.{ℤ, pos, negsuc, negℤ, _+ℤ_, _-ℤ_, _*ℤ_, *ℤ-comm, +ℤ-idl, +ℤ-idr, *ℤ-zero, zero-*ℤ}
+use lib.IntN.{ℤ, pos, negsuc, negℤ, _+ℤ_, _-ℤ_, _*ℤ_, *ℤ-comm, +ℤ-idl, +ℤ-idr, *ℤ-zero}
 use borrow.Author.Differences.{ints}
 use Rattle.whole.specs.Tests.{is-zero}
 use Rattle.whole.proofs.Integers.{*-+, +-*, *-assoc, cancel}

@@ -1,0 +1,5 @@
+// Lines at the limits of the format, and lines just beyond them.
+#[cfg(test)]
+mod headings;
+#[cfg(test)]
+mod lines;

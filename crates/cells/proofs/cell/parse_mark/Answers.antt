@@ -1,0 +1,11 @@
+use Rattle.cells.proofs.Laws.{one-byte}
+use Rattle.cells.proofs.cell.parse_mark.Needs as need
+
+pub returns-in-46 : need.returns-in-46
+returns-in-46 c = one-byte _ 46 (c .if-bytes-ne1 .left) (c .in-46 .is)
+
+pub returns-in-42 : need.returns-in-42
+returns-in-42 c = one-byte _ 42 (c .if-bytes-ne1 .left) (c .in-42 .is)
+
+pub returns-in-126 : need.returns-in-126
+returns-in-126 c = one-byte _ 126 (c .if-bytes-ne1 .left) (c .in-126 .is)

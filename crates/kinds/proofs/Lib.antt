@@ -1,0 +1,5 @@
+pub mod Lists
+pub mod Dots
+pub mod Steps
+pub mod Tests
+pub mod Fitting

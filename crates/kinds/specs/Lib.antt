@@ -1,0 +1,4 @@
+pub mod Coords
+pub mod Laws
+pub mod Outcomes
+pub mod Models

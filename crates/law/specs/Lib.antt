@@ -1,0 +1,4 @@
+pub mod Placings
+pub mod Histories
+pub mod Law
+pub mod Standing

@@ -1,0 +1,12 @@
+pub mod Outcomes
+pub mod Gram
+pub mod Invariant
+pub mod Elimination
+pub mod Limits
+pub mod Meaning
+pub mod Pivots
+pub mod Solving
+pub mod Spares
+pub mod Products
+pub mod Nearest
+pub mod Lowest

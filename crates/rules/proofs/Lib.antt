@@ -1,0 +1,6 @@
+pub mod Worked
+pub mod Roles
+pub mod Counting
+pub mod Fit
+pub mod Bounds
+pub mod Bonds

@@ -1,0 +1,10 @@
+pub mod Limits
+pub mod Values
+pub mod Sheets
+pub mod Gripping
+pub mod Pulling
+pub mod Calls
+pub mod Runs
+pub mod Worked
+pub mod Mistakes
+pub mod Bounds

@@ -1,0 +1,6 @@
+pub mod Sizes
+pub mod Writing
+pub mod Combining
+pub mod Fit
+pub mod Gaps
+pub mod Accepted

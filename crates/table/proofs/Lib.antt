@@ -1,0 +1,9 @@
+pub mod Places
+pub mod Sizes
+pub mod Changes
+pub mod Grids
+pub mod Turns
+pub mod Steps
+pub mod Loops
+pub mod First
+pub mod Inside

@@ -1,0 +1,6 @@
+pub mod Lists
+pub mod Numbers
+pub mod Halves
+pub mod Shares
+pub mod Counting
+pub mod Made

@@ -1,0 +1,20 @@
+-- The relations as a grip reads them.
+use mathlib.Core.Bool.{Bool, _||_}
+use mathlib.Core.List.{List, [], map}
+use Prim.Native.Nat.{ℕ}
+use lib.Dec.{ltb}
+use lib.IntN.{ℤ}
+use lib.ListN.{length, take}
+use Rattle.whole.specs.Tests.{any}
+use Rattle.records.specs.declared.relation.Relation.{Relation}
+use Rattle.records.specs.declared.role.Role.{Role}
+use Rattle.rules.specs.Limits.{most-parameters}
+use Rattle.rules.specs.Sheets.{Bond, bond, relation-at, bad-coefs}
+
+-- Relations without their constants, for n parameters.
+abbrev pub bare : ℕ → List Relation → List Bond
+bare n rs = map (λ r. bond n (r .coefficients) []) rs
+
+-- There are more roles than a sheet has parameters, or a coefficient of theirs is out of range.
+abbrev pub unready : List Relation → List Role → Bool
+unready rs roles = ltb most-parameters (length roles) || any (length rs) (λ i. bad-coefs (length roles) (relation-at rs i .coefficients))

@@ -1,0 +1,4 @@
+pub mod Chosen
+pub mod Rows
+pub mod Shown
+pub mod Facts
