@@ -22,10 +22,10 @@ use Rattle.words.specs.Numbers.{Number}
 use Rattle.lines.specs.Lines.{Said, binds, Values}
 
 module _ {V : Type 0} (form : List ℕ → V → Type 0) where
-  pub put-one : (r : Result (Unit {0}) Fault) (v : V) (before mid after : List ℕ) → mid ≡ before ++ 32 ∷ [] → PutWord form v mid after r → PutWords (OneWord form v) before after r
-  put-one (Ok x) v before mid after e h =
-      (h .0 ∷ [], h .1 ∙ ap (λ l. l ++ h .0) e ∙ append-assoc before (32 ∷ []) (h .0) ∙ ap (λ l. before ++ 32 ∷ l) (sym (append-nil (h .0))), (h .0, refl, h .2))
-  put-one (Err x) v before mid after e h = refuses-map x _ _ (λ none ws w. none (w .0) (w .2)) h
+  pub put-one : (r : Result (Unit {0}) Fault) (v : V) (before mid after : List ℕ) (d : ℕ) → mid ≡ before ++ d ∷ [] → d ≡ 32 → PutWord form v mid after r → PutWords (OneWord form v) before after r
+  put-one (Ok x) v before mid after d e is h =
+      (h .0 ∷ [], h .1 ∙ ap (λ l. l ++ h .0) (e ∙ ap (λ x. before ++ x ∷ []) is) ∙ append-assoc before (32 ∷ []) (h .0) ∙ ap (λ l. before ++ 32 ∷ l) (sym (append-nil (h .0))), (h .0, refl, h .2))
+  put-one (Err x) v before mid after d e is h = refuses-map x _ _ (λ none ws w. none (w .0) (w .2)) h
 
   -- the words of the first i values stand behind `before`
   abbrev pub Appended : List V → ℕ → List ℕ → List ℕ → Type 0

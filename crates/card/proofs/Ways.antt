@@ -48,11 +48,11 @@ each-values form laws (w ∷ ws) (x ∷ xs) [] p q = absurd q
 each-values form laws (w ∷ ws) (x ∷ xs) (y ∷ ys) p q = let a = laws .one-value w x y (p .0) (q .0) in let b = each-values form laws ws xs ys (p .1) (q .1) in cc
 
 module _ {V : Type 0} (form : List ℕ → V → Type 0) (count : ℕ) where
-  pub worded : (s : Said V) (verb : Verb) (t₀ t₁ t₂ t₃ : List ℕ) → verb ≡ verb-of s → t₀ ≡ [] → t₁ ≡ t₀ ++ verb-word verb → (a : (ws : List (List ℕ)) × (t₂ ≡ t₁ ++ spaced ws) × Values form count ws s) → t₃ ≡ t₂ ++ 10 ∷ [] → Worded form count t₃ s
-  worded s verb t₀ t₁ t₂ t₃ e none p a end = record {
+  pub worded : (s : Said V) (verb : Verb) (t₀ t₁ t₂ t₃ : List ℕ) (d : ℕ) → verb ≡ verb-of s → t₀ ≡ [] → t₁ ≡ t₀ ++ verb-word verb → (a : (ws : List (List ℕ)) × (t₂ ≡ t₁ ++ spaced ws) × Values form count ws s) → t₃ ≡ t₂ ++ d ∷ [] → d ≡ 10 → Worded form count t₃ s
+  worded s verb t₀ t₁ t₂ t₃ d e none p a end is = record {
     words = a .0;
     values = a .2;
-    joined = end ∙ ap (λ t. t ++ 10 ∷ []) (a .1 ∙ ap (λ t. t ++ spaced (a .0)) (p ∙ ap (λ t. t ++ verb-word verb) none ∙ ap verb-word e) ∙ sym (joined-spaced (verb-word (verb-of s)) (a .0)));
+    joined = end ∙ ap (λ x. t₂ ++ x ∷ []) is ∙ ap (λ t. t ++ 10 ∷ []) (a .1 ∙ ap (λ t. t ++ spaced (a .0)) (p ∙ ap (λ t. t ++ verb-word verb) none ∙ ap verb-word e) ∙ sym (joined-spaced (verb-word (verb-of s)) (a .0)));
   }
 
 module _ {V : Type 0} (form : List ℕ → V → Type 0) (laws : Forms form) (count : ℕ) where
@@ -149,10 +149,13 @@ module _ {V : Type 0} (form : List ℕ → V → Type 0) (laws : Forms form) (co
       let P : Fault → Type 0 = λ y. Refuses y ((bs : List ℕ) → Spelled form count bs s → length before < length bs) in
       (p .0, subst P (sym (p .1)) (too-long form laws count text before s w (subst (λ b. (1024 < length b) ⊎ (length before < length b)) e (p .2))))
 
-  pub copied : (line before after : List ℕ) (r : Result ℕ Fault) → Spelled form count line s → LineWritten form count s before after r → Copied form count line before after r
-  copied line before after (Ok n) p h = ((s, p), one-spelling form laws count (take n after) line s (h .0) p, h .1, h .2)
-  copied line before after (Err e) p h = (h .0, refuses-map e _ _ (λ none t q. none line p) (h .1))
+  same-copied : (line before after : List ℕ) (r : Result ℕ Fault) → Spelled form count line s → LineWritten form count s before after r → Copied form count line before after r
+  same-copied line before after (Ok n) p h = ((s, p), one-spelling form laws count (take n after) line s (h .0) p, h .1, h .2)
+  same-copied line before after (Err e) p h = (h .0, refuses-map e _ _ (λ none t q. none line p) (h .1))
 
-  pub reread : (before after : List ℕ) (n : ℕ) (r : Result (Line V) Fault) → LineWritten form count s before after (Ok n) → LineRead form count (take (n - 0) (drop 0 after)) r → Reread form count s before after r
-  reread before after n (Ok x) p h = let none : n - 0 ≡ n = omega arith in (one-reading form laws count (take n after) (said x) s (subst (λ k. Spelled form count (take k after) (said x)) none h) (p .0), (n, p))
-  reread before after n (Err e) p h = let none : n ≡ n - 0 = omega arith in refuses-map e _ _ (λ no. absurd (no s (subst (λ k. Spelled form count (take k after) s) none (p .0)))) h
+  pub copied : (t : Said V) (line before after : List ℕ) (r : Result ℕ Fault) → Spelled form count line s → LineWritten form count t before after r → t ≡ s → Copied form count line before after r
+  copied t line before after r p h e = let P : Said V → Type 0 = λ x. LineWritten form count x before after r in same-copied line before after r p (subst P e h)
+
+  pub reread : (before after : List ℕ) (n m : ℕ) (r : Result (Line V) Fault) → LineWritten form count s before after (Ok n) → LineRead form count (take m (drop 0 after)) r → m ≡ n → Reread form count s before after r
+  reread before after n m (Ok x) p h e = (one-reading form laws count (take n after) (said x) s (subst (λ k. Spelled form count (take k after) (said x)) e h) (p .0), (n, p))
+  reread before after n m (Err x) p h e = refuses-map x _ _ (λ no. absurd (no s (subst (λ k. Spelled form count (take k after) s) (sym e) (p .0)))) h

@@ -37,9 +37,9 @@ length-laws = record {
   visible = λ w v p. number-laws .visible w (v .x) p;
 }
 
-pub put-length : (r : Result (Unit {0}) Fault) (v : Length) (m : ℤ) (before after : List ℕ) → m ≡ v .x → PutWord Number m before after r → PutWord LengthForm v before after r
-put-length (Ok x) v m before after e h = (h .0, h .1, subst (Number (h .0)) e (h .2))
-put-length (Err x) v m before after e h = refuses-map x _ _ (λ none w f. none w (subst (Number w) (sym e) f)) h
+pub put-length : (r : Result (Unit {0}) Fault) (v : Length) (m : ℤ) (before after : List ℕ) → PutWord Number m before after r → m ≡ v .x → PutWord LengthForm v before after r
+put-length (Ok x) v m before after h e = (h .0, h .1, subst (Number (h .0)) e (h .2))
+put-length (Err x) v m before after h e = refuses-map x _ _ (λ none w f. none w (subst (Number w) (sym e) f)) h
 
 number-lacks : (w : List ℕ) (z : ℤ) → Number w z → Lacks 44 w
 number-lacks w z p k l e = ⊎-elim (λ d. omega arith) (λ d. omega (arith, d .0)) (number-bytes w z p k l)
@@ -126,10 +126,10 @@ no-point word n p s = other word n (s .sorted ∙ point-sort (s .first) (text-of
     other (w.Number b) n e = n b refl
     other (w.Cell b) n e = let z : _≡_ {A = ℕ} 0 1 = cc in omega arith
 
-pub put-point : (r : Result (Unit {0}) Fault) (p : Point) (m n : ℤ) (t₀ t₁ t₂ t₃ : List ℕ) (first : List ℕ) → m ≡ p .x → n ≡ p .y → t₁ ≡ t₀ ++ first → Number first m → t₂ ≡ t₁ ++ 44 ∷ [] → PutWord Number n t₂ t₃ r → PutWord PointForm p t₀ t₃ r
-put-point (Ok x) p m n t₀ t₁ t₂ t₃ first ex ey a f b h = (
+pub put-point : (r : Result (Unit {0}) Fault) (p : Point) (m n : ℤ) (t₀ t₁ t₂ t₃ : List ℕ) (first : List ℕ) (d : ℕ) → t₁ ≡ t₀ ++ first → Number first m → t₂ ≡ t₁ ++ d ∷ [] → d ≡ 44 → PutWord Number n t₂ t₃ r → m ≡ p .x → n ≡ p .y → PutWord PointForm p t₀ t₃ r
+put-point (Ok x) p m n t₀ t₁ t₂ t₃ first d a f b is h ex ey = (
   first ++ 44 ∷ h .0,
-  h .1 ∙ ap (λ t. t ++ h .0) (b ∙ ap (λ t. t ++ 44 ∷ []) a) ∙ append-assoc (t₀ ++ first) (44 ∷ []) (h .0) ∙ append-assoc t₀ first (44 ∷ h .0),
+  h .1 ∙ ap (λ t. t ++ h .0) (b ∙ (λ i. a i ++ is i ∷ [])) ∙ append-assoc (t₀ ++ first) (44 ∷ []) (h .0) ∙ append-assoc t₀ first (44 ∷ h .0),
   record { first = first; second = h .0; comma = refl; left = subst (Number first) ex f; right = subst (Number (h .0)) ey (h .2) },
 )
-put-point (Err e) p m n t₀ t₁ t₂ t₃ first ex ey a f b h = refuses-map e _ _ (λ none w q. none (q .second) (subst (Number (q .second)) (sym ey) (q .right))) h
+put-point (Err e) p m n t₀ t₁ t₂ t₃ first d a f b is h ex ey = refuses-map e _ _ (λ none w q. none (q .second) (subst (Number (q .second)) (sym ey) (q .right))) h

@@ -1,10 +1,18 @@
 -- The code's grips and what its calls give back, as the rules have them.
+use mathlib.Core.Path.{_≡_}
+use mathlib.Core.List.{List}
+use Prim.Native.Nat.{ℕ}
 use Rattle.std.specs.declared.result.Result.{Result}
 use Rattle.std.specs.declared.result.Result.the-variants.{Ok, Err}
 use Rattle.records.specs.declared.refusal.Refusal.{Refusal}
 use Rattle.rules.specs.Sheets as rules
 use Rattle.sheets.specs.declared.record.Sheet.{Sheet}
 use Rattle.sheets.specs.Shown.{numbers}
+use Rattle.records.specs.declared.relation.Relation.{Relation}
+use Rattle.rules.specs.Values.{Coords}
+use Rattle.rules.specs.Calls.{Listed, spare-numbers}
+use Rattle.workings.specs.Shown.{shown}
+use Rattle.grips.specs.declared.taking.Gripped.{Gripped}
 use Rattle.grips.specs.declared.token.Grip.{Grip}
 use Rattle.grips.specs.declared.token.Refused.{Refused}
 
@@ -16,6 +24,16 @@ gripped-sheet g = numbers (g .sheet)
 abbrev pub handing-back : {A : Type 0} → rules.Sheet → Result A Refusal → Result A (rules.Sheet × Refusal)
 handing-back s (Ok a) = Ok a
 handing-back s (Err e) = Err (s, e)
+
+-- What gripping gave back: the gripped sheet and its workings.
+abbrev pub shown-take : Result Gripped (Refused Sheet) → Result (rules.Sheet × rules.Workings) (rules.Sheet × Refusal)
+shown-take (Ok g) = Ok (gripped-sheet (g .grip), shown (g .workings))
+shown-take (Err refused) = Err (numbers (refused .back), refused .refusal)
+
+-- The spare list after gripping: the numbers of the spare relations in its first places, or as it was.
+abbrev pub Spares-told : Result Gripped (Refused Sheet) → rules.Sheet → List Relation → List Coords → List ℕ → List ℕ → Type 0
+Spares-told (Ok g) s rs qs before after = Listed (spare-numbers (shown (g .workings)) s rs qs) (g .spares) before after
+Spares-told (Err refused) s rs qs before after = after ≡ before
 
 -- What a keep gave back.
 abbrev pub shown-keep : {P : Type 0} → Result Sheet (Refused (Grip P)) → Result rules.Sheet (rules.Sheet × Refusal)

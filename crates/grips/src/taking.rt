@@ -1,4 +1,11 @@
 // Gripping a sheet.
+ghost use mathlib.Core.Path.{_≡_};
+ghost use mathlib.Core.List.{map};
+ghost use Rattle.records.specs.Outcomes.{image};
+ghost use Rattle.rules.specs.Calls.{grip-answer, marks-after};
+ghost use Rattle.sheets.specs.Shown.{numbers};
+ghost use Rattle.workings.specs.Shown.{shown};
+ghost use Rattle.grips.specs.Shown.{handing-back, shown-take, Spares-told};
 use crate::marks::mark_all;
 use crate::marks::write_spares;
 use crate::token::Grip;
@@ -28,14 +35,19 @@ fn workings_of<K: Kind>(
     relations: &[Relation],
     constants: &[K],
     roles: &[Role],
-    places: usize,
-) -> Result<Workings, Refusal> {
+    spare: &[usize],
+) -> Result<Workings, Refusal>
+    ensures { λ r. ⌜ image shown r ≡ grip-answer size (numbers (now (sheet .entry))) (map coords (now (values .entry))) (now (relations .entry)) (map coords (now (constants .entry))) (now (roles .entry)) (now (spare .entry)) ⌝ }
+{
     let n = sheet.count();
     let bound = sheet.bound();
-    if roles.len() < n || places < SPARE_PLACES {
+    if roles.len() < n {
         return Err(Refusal::Unfit);
     }
-    if unfit(sheet, values, relations, constants) || relations.len() < bound {
+    if spare.len() < SPARE_PLACES {
+        return Err(Refusal::Unfit);
+    }
+    if unfit(sheet, values, relations, constants) {
         return Err(Refusal::Unfit);
     }
     Workings::make(&relations[0..bound], &roles[0..n])
@@ -50,23 +62,22 @@ impl Grip<Unproposed> {
         constants: &[K],
         roles: &[Role],
         spare: &mut [usize],
-    ) -> Result<Gripped, Refused<Sheet>> {
-        let workings = match workings_of(&sheet, values, relations, constants, roles, spare.len()) {
+    ) -> Result<Gripped, Refused<Sheet>>
+        ensures result { λ r. ⌜ shown-take r ≡ handing-back (numbers sheet) (image (λ w. (numbers sheet, w)) (grip-answer size (numbers sheet) (map coords (now (values .entry))) (now (relations .entry)) (map coords (now (constants .entry))) (now (roles .entry)) (now (spare .entry)))) ⌝ }
+        ensures marks { λ r. ⌜ now (relations .exit) ≡ marks-after (grip-answer size (numbers sheet) (map coords (now (values .entry))) (now (relations .entry)) (map coords (now (constants .entry))) (now (roles .entry)) (now (spare .entry))) (numbers sheet) (now (relations .entry)) (map coords (now (constants .entry))) ⌝ }
+        ensures spares { λ r. ⌜ Spares-told r (numbers sheet) (now (relations .entry)) (map coords (now (constants .entry))) (now (spare .entry)) (now (spare .exit)) ⌝ }
+    {
+        let workings = match workings_of(&sheet, values, relations, constants, roles, spare) {
             Ok(workings) => workings,
-            Err(refusal) => return Err(Refused {
-                back: sheet,
-                refusal,
-            }),
+            Err(refusal) => {
+                return Err(Refused {
+                    back: sheet,
+                    refusal,
+                });
+            }
         };
-        let n = sheet.count();
         let bound = sheet.bound();
-        if roles.len() < n || relations.len() < bound {
-            return Err(Refused {
-                back: sheet,
-                refusal: Refusal::Unfit,
-            });
-        }
-        mark_all(relations, bound, &roles[0..n], &workings);
+        mark_all(relations, bound, workings.roles(), &workings);
         let spares = write_spares(relations, bound, spare);
         Ok(Gripped {
             grip: Grip {

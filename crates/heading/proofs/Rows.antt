@@ -37,8 +37,8 @@ has-not ws count i w none far = (
   λ h. absurd (none (h .0) (⊎-elim (λ l. omega (arith, h .1)) (λ l. omega (arith, h .2)) far) (h .3)),
 )
 
-pub has-same : (us ws : List (List ℕ)) (m n : ℕ) (w : List ℕ) → us ≡ ws → m ≡ n → Has us m w → Has ws n w
-has-same us ws m n w e f h = subst (λ k. Has ws k w) f (subst (λ l. Has l m w) e h)
+pub has-same : (us ws : List (List ℕ)) (m n : ℕ) (w : List ℕ) → Has us m w → us ≡ ws → m ≡ n → Has ws n w
+has-same us ws m n w h e f = subst (λ k. Has ws k w) f (subst (λ l. Has l m w) e h)
 
 -- the first i words are names, no two the same
 pub record Good (ws : List (List ℕ)) (i : ℕ) : Type 0 where

@@ -9,6 +9,9 @@ use words::Reader;
 use words::Word;
 use words::same_bytes;
 
+// A sheet has at most so many parameters.
+pub(crate) const NAMES: usize = 48;
+
 fn name_byte(b: u8) -> bool
     ensures { λ r. ⌜ Decides r (NameByte b) ⌝ }
 {
@@ -55,7 +58,7 @@ pub(crate) fn holds(names: &[&[u8]], count: usize, name: &[u8]) -> bool
 pub fn good_names(names: &[&[u8]]) -> bool
     ensures { λ r. ⌜ Decides r (Names (texts (now (names .entry)))) ⌝ }
 {
-    if names.len() == 0 || names.len() > 48 {
+    if names.len() == 0 || names.len() > NAMES {
         return false;
     }
     for (i, name) in names.iter().enumerate() {

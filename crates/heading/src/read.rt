@@ -5,6 +5,7 @@ ghost use Rattle.words.specs.Reading.{left, starts};
 ghost use Rattle.heading.specs.Names.{NamesRead};
 ghost use Rattle.heading.specs.Headings.{HeadingRead};
 use super::kind::KindWord;
+use super::name::NAMES;
 use super::name::holds;
 use super::name::next_name;
 use std::alloc::Global;
@@ -29,7 +30,7 @@ fn read_names<'a>(heap: Global, reader: &mut Reader<'a>) -> Result<Vec<&'a [u8]>
         let Some(name) = next_name(reader) else {
             return Err(Fault::Form);
         };
-        if names.len() >= 48 {
+        if names.len() >= NAMES {
             return Err(Fault::Form);
         }
         if holds(names.as_slice(), names.len(), name) {

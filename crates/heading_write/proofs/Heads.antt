@@ -22,10 +22,10 @@ use Rattle.heading.proofs.Heads.{kind-once, headed-words}
 use Rattle.heading_write.specs.Writes.{HeadingWritten, One-reading, One-spelling, Reread}
 
 -- one word more, behind a space
-pub spaced-more : (ws : List (List ℕ)) (i : ℕ) (w t₀ t₁ t₂ t₃ : List ℕ) → i < length ws → getD ws i [] ≡ w → t₁ ≡ t₀ ++ spaced (take i ws) → t₂ ≡ t₁ ++ 32 ∷ [] → t₃ ≡ t₂ ++ w → t₃ ≡ t₀ ++ spaced (take (i + 1) ws)
-spaced-more ws i w t₀ t₁ t₂ t₃ l e a b d =
+pub spaced-more : (ws : List (List ℕ)) (i : ℕ) (w t₀ t₁ t₂ t₃ : List ℕ) (d : ℕ) → i < length ws → getD ws i [] ≡ w → t₁ ≡ t₀ ++ spaced (take i ws) → t₂ ≡ t₁ ++ d ∷ [] → d ≡ 32 → t₃ ≡ t₂ ++ w → t₃ ≡ t₀ ++ spaced (take (i + 1) ws)
+spaced-more ws i w t₀ t₁ t₂ t₃ d l e a b is h =
     let last : spaced (take (i + 1) ws) ≡ spaced (take i ws) ++ 32 ∷ w = ap spaced (take-more ws i [] l ∙ ap (λ x. take i ws ++ x ∷ []) e) ∙ spaced-append (take i ws) (w ∷ []) ∙ ap (λ x. spaced (take i ws) ++ 32 ∷ x) (append-nil w) in
-    d ∙ ap (λ t. t ++ w) (b ∙ ap (λ t. t ++ 32 ∷ []) a) ∙ append-assoc (t₀ ++ spaced (take i ws)) (32 ∷ []) w ∙ append-assoc t₀ (spaced (take i ws)) (32 ∷ w) ∙ ap (λ x. t₀ ++ x) (sym last)
+    h ∙ ap (λ t. t ++ w) (b ∙ (λ j. a j ++ is j ∷ [])) ∙ append-assoc (t₀ ++ spaced (take i ws)) (32 ∷ []) w ∙ append-assoc t₀ (spaced (take i ws)) (32 ∷ w) ∙ ap (λ x. t₀ ++ x) (sym last)
 
 pub heading-joined : (kind : KindWord) (names : List (List ℕ)) (t₀ t₁ t₂ t₃ : List ℕ) → t₀ ≡ [] → t₁ ≡ t₀ ++ kind-word kind → t₂ ≡ t₁ ++ spaced names → t₃ ≡ t₂ ++ 10 ∷ [] → t₃ ≡ joined-by 32 (kind-word kind ∷ names) ++ 10 ∷ []
 heading-joined kind names t₀ t₁ t₂ t₃ none a b d =
@@ -51,8 +51,6 @@ module _ (kind : KindWord) (names : List (List ℕ)) where
       let P : Fault → Type 0 = λ y. Refuses y ((bs : List ℕ) → Headed bs kind names → length before < length bs) in
       (p .0, subst P (sym (p .1)) (λ bs q. let same = ap length (q .joined ∙ sym w) in ⊎-elim (λ l. absurd (omega (arith, q .short))) (λ l. omega arith) (p .2)))
 
-  pub reread : (before after : List ℕ) (n : ℕ) (r : Result Heading Fault) → HeadingWritten kind names before after (Ok n) → HeadingRead (take (n - 0) (drop 0 after)) r → Reread kind names before r
-  reread before after n (Ok h) p q =
-      let none : n - 0 ≡ n = omega arith in
-      one-reading (take n after) (h .kind) kind (names-of h) names (subst (λ k. Headed (take k after) (h .kind) (names-of h)) none q) (p .0)
-  reread before after n (Err e) p q = let none : n ≡ n - 0 = omega arith in refuses-map e _ _ (λ no bs b. absurd (no kind names (subst (λ k. Headed (take k after) kind names) none (p .0)))) q
+  pub reread : (before after : List ℕ) (n m : ℕ) (r : Result Heading Fault) → HeadingWritten kind names before after (Ok n) → HeadingRead (take m (drop 0 after)) r → m ≡ n → Reread kind names before r
+  reread before after n m (Ok h) p q e = one-reading (take n after) (h .kind) kind (names-of h) names (subst (λ k. Headed (take k after) (h .kind) (names-of h)) e q) (p .0)
+  reread before after n m (Err x) p q e = refuses-map x _ _ (λ no bs b. absurd (no kind names (subst (λ k. Headed (take k after) kind names) (sym e) (p .0)))) q

@@ -2,12 +2,12 @@
 use mathlib.Core.Path.{_≡_, refl, sym, ap, _∙_, subst}
 use mathlib.Core.Logic.{_≢_, _⊎_, inl, inr, ⊎-elim}
 use mathlib.Core.Bool.{Bool, true, false, cond, true≢false}
-use mathlib.Core.List.{List, [], _∷_, _++_}
-use Prim.Native.Nat.{ℕ, zero, suc, _+_, _*_, _/_, _<_, _≤_, _∣_}
+use mathlib.Core.List.{List, [], _∷_}
+use Prim.Native.Nat.{ℕ, zero, suc, _+_, _*_, _<_, _∣_}
 use native.Mathlib.Omega.{arith}
 use native.Mathlib.Decide.{ℕ-discrete}
-use native.Mathlib.Nat.{not-suc-le-zero, dvd-zero, dvd-trans, mul-div-cancel'}
-use lib.IntN.{ℤ, pos, negsuc, natAbs, _*ℤ_}
+use native.Mathlib.Nat.{not-suc-le-zero, dvd-zero, dvd-trans}
+use lib.IntN.{ℤ, pos, natAbs, _*ℤ_}
 use lib.ListN.{getD, length}
 use lib.Signed.{quotZ, _<ℤ_}
 use borrow.Author.Differences.{ints}

@@ -5,3 +5,6 @@ pub mod Solved
 pub mod Pulls
 pub mod Steps
 pub mod Runs
+pub mod Series
+pub mod Plenty
+pub mod Facts

@@ -1,7 +1,7 @@
 -- What a pull works out, in the terms of the linear theory: where each parameter starts from, what each relation lacks there, and what the numerators are.
 use mathlib.Core.Path.{_≡_, refl, sym, ap, _∙_, subst}
-use mathlib.Core.Logic.{_≢_, _⊎_, inl, inr, ⊎-elim}
-use mathlib.Core.Bool.{false, cond}
+use mathlib.Core.Logic.{_⊎_, inl, inr, ⊎-elim}
+use mathlib.Core.Bool.{false}
 use mathlib.Core.List.{List, [], _∷_}
 use Prim.Native.Nat.{ℕ, _+_, _<_}
 use native.Mathlib.Omega.{arith}
@@ -10,13 +10,13 @@ use lib.ListN.{getD, length}
 use lib.Signed.{_<ℤ_, _≤ℤ_}
 use borrow.Author.Differences.{ints}
 use Rattle.std.proofs.shelf.Tests.{not-false}
-use Rattle.whole.specs.Lists.{tab, at, coord}
+use Rattle.whole.specs.Lists.{at, coord}
 use Rattle.whole.specs.Sums.{sum}
-use Rattle.whole.proofs.Integers.{*->0, cancel-*, cancel-<, not-both}
+use Rattle.whole.proofs.Integers.{*->0, cancel-*, cancel-<}
 use Rattle.whole.proofs.Lists.{at-tab}
 use Rattle.whole.proofs.Ring.{v, k, _⊕_, _⊖_, _⊗_, ring}
 use Rattle.whole.proofs.Sums.{sum-ext, sum-add, sum-scale}
-use Rattle.linear.specs.Gram.{dot, comb}
+use Rattle.linear.specs.Gram.{dot}
 use Rattle.linear.specs.Elimination.{Grid, entry}
 use Rattle.linear.specs.Products.{InnerProduct}
 use Rattle.linear.specs.Placings as Low
@@ -29,7 +29,7 @@ use Rattle.rules.specs.Gripping.{role, coef, counted, share, shares, bad-weight
 use Rattle.rules.specs.Pulling.{Placing, const, if-held, if-moving, residuals, carried, numerator, numerators}
 use Rattle.rules.proofs.Counting.{among, counts-or-not, idle-at}
 use Rattle.rules.proofs.Roles.{weight-is, fixed-roles}
-use Rattle.law.specs.Placings.{Shaped, Same, All-hold, Meets, weight-of, cost, Nearer}
+use Rattle.law.specs.Placings.{Shaped, All-hold, Meets, weight-of, cost, Nearer}
 use Rattle.law.proofs.Divided.{coord-grid}
 
 -- ---- one parameter

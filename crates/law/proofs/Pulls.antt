@@ -2,15 +2,15 @@
 use mathlib.Core.Path.{_≡_, refl, sym, ap, _∙_, subst}
 use mathlib.Core.Logic.{_≢_}
 use mathlib.Core.Bool.{Bool, true, false, cond}
-use mathlib.Core.List.{List}
-use Prim.Native.Nat.{ℕ, _≤_, _<_}
+use mathlib.Core.List.{List, []}
+use Prim.Native.Nat.{ℕ, _<_}
 use native.Mathlib.Omega.{arith}
-use lib.IntN.{ℤ, pos, _*ℤ_}
-use lib.ListN.{length, take}
+use lib.IntN.{pos}
+use lib.ListN.{getD, take}
 use lib.Signed.{_<ℤ_}
 use Rattle.std.specs.declared.result.Result.{Result}
 use Rattle.std.specs.declared.result.Result.the-variants.{Ok, Err}
-use Rattle.std.proofs.shelf.Lists.{take-all}
+use Rattle.std.proofs.shelf.Lists.{getD-take, take-all}
 use Rattle.whole.specs.Lists.{coord}
 use Rattle.linear.proofs.Outcomes.{not-accepted}
 use Rattle.records.specs.declared.refusal.Refusal.{Refusal}
@@ -26,8 +26,11 @@ use Rattle.rules.proofs.Bonds.{take-written}
 use Rattle.law.specs.Histories.{Told, tell}
 use Rattle.law.specs.Law.{Refused-rightly, Proposes-nearest}
 use Rattle.law.specs.Standing.{Gripped-well, Standing}
-use Rattle.law.proofs.Solved as Solved
 use Rattle.law.proofs.Solved.{Accepted, refused-13, none-13, accepted-answer}
+
+-- the sheet's coordinates are the kept ones
+pub kept-nums : (size n : ℕ) (t : Told) (u : Use) → Standing size n t u → (s : ℕ) → s < n → (c : ℕ) → c < size → coord (u .values) s c ≡ coord (t .kept .nums) s c
+kept-nums size n t u S s l c b = ap (λ (x : Coords). getD x c (pos 0)) (sym (getD-take n (u .values) s [] l)) ∙ ap (λ (xs : List Coords). coord xs s c) (S .values-are)
 
 same-refusal : {A B : Type 0} (j k : Refusal) → _≡_ {A = Result A Refusal} (Err j) (Err k) → _≡_ {A = Result B Refusal} (Err j) (Err k)
 same-refusal {A} {B} j k e = let q : j ≡ k = cc in ap refusal q
@@ -44,16 +47,16 @@ module _ (size n : ℕ) (t : Told) (u : Use) (S : Standing size n t u) (w : Work
   answer = proposed size n (t .roles) (shares n (t .roles)) (counted n (t .roles) (t .bound)) (w .table) (u .sheet .d) (u .values) wishes
 
   abbrev pub Accepted-here : Placing → Type 0
-  Accepted-here q = Accepted size n (t .roles) (t .bound) (w .table) (u .sheet .d) (u .values) wishes (t .kept) (G .weights) (G .means) (S .over-is) (S .nums-are) d>0 (S .holds) q
+  Accepted-here q = Accepted size n (t .roles) (t .bound) (w .table) (u .sheet .d) (u .values) wishes (t .kept) (G .weights) (G .means) (S .over-is) (kept-nums size n t u S) d>0 (S .holds) q
 
   pub is-accepted : (q : Placing) → answer ≡ Ok q → Accepted-here q
-  is-accepted = accepted-answer size n (t .roles) (t .bound) (w .table) (u .sheet .d) (u .values) wishes (t .kept) (G .weights) (G .means) (S .over-is) (S .nums-are) d>0 (S .holds)
+  is-accepted = accepted-answer size n (t .roles) (t .bound) (w .table) (u .sheet .d) (u .values) wishes (t .kept) (G .weights) (G .means) (S .over-is) (kept-nums size n t u S) d>0 (S .holds)
 
   none-if : answer ≡ Err Impossible → (z : Placing) → ¬ (Rattle.law.specs.Law.Meets-all size n t wishes z)
-  none-if = refused-13 size n (t .roles) (t .bound) (w .table) (u .sheet .d) (u .values) wishes (t .kept) (G .weights) (G .means) (S .over-is) (S .nums-are) d>0 (S .holds)
+  none-if = refused-13 size n (t .roles) (t .bound) (w .table) (u .sheet .d) (u .values) wishes (t .kept) (G .weights) (G .means) (S .over-is) (kept-nums size n t u S) d>0 (S .holds)
 
   if-none : answer ≢ Err WishTooFar → answer ≢ Err GapTooLarge → ((z : Placing) → ¬ (Rattle.law.specs.Law.Meets-all size n t wishes z)) → answer ≡ Err Impossible
-  if-none = none-13 size n (t .roles) (t .bound) (w .table) (u .sheet .d) (u .values) wishes (t .kept) (G .weights) (G .means) (S .over-is) (S .nums-are) d>0 (S .holds)
+  if-none = none-13 size n (t .roles) (t .bound) (w .table) (u .sheet .d) (u .values) wishes (t .kept) (G .weights) (G .means) (S .over-is) (kept-nums size n t u S) d>0 (S .holds)
 
   -- what the pull gives, by whether its lists fit and by that answer
   abbrev pub outcome : Bool → Result Placing Refusal → Calls.Pulled
@@ -65,7 +68,7 @@ module _ (size n : ℕ) (t : Told) (u : Use) (S : Standing size n t u) (w : Work
 
   -- a refusal leaves the grip without a proposal
   refused-stands : (k : Refusal) (proposal working : List Coords) → Standing size n t (pulled-to u w (Err k, proposal, working) .then)
-  refused-stands k proposal working = record { count-is = S .count-is; few = S .few; bound-is = S .bound-is; over-is = S .over-is; nums-are = S .nums-are; shaped = S .shaped; holds = S .holds; phase-is = G }
+  refused-stands k proposal working = record { count-is = S .count-is; few = S .few; bound-is = S .bound-is; over-is = S .over-is; values-are = S .values-are; shaped = S .shaped; holds = S .holds; phase-is = G }
 
   written-out : (q : Placing) → Accepted-here q → take n (written n (q .nums) (u .proposal)) ≡ q .nums
   written-out q A =
@@ -93,7 +96,7 @@ module _ (size n : ℕ) (t : Told) (u : Use) (S : Standing size n t u) (w : Work
           few = S .few;
           bound-is = S .bound-is;
           over-is = S .over-is;
-          nums-are = S .nums-are;
+          values-are = S .values-are;
           shaped = S .shaped;
           holds = S .holds;
           phase-is = (

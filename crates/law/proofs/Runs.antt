@@ -2,31 +2,33 @@
 use mathlib.Core.Path.{_≡_, refl, sym, ap, _∙_, subst}
 use mathlib.Core.Bool.{Bool, true, false, cond, _||_}
 use mathlib.Core.List.{List, [], _∷_, _++_}
-use Prim.Native.Nat.{ℕ, min, _≤_, _<_}
+use Prim.Native.Nat.{ℕ, min, _<_}
 use native.Mathlib.Omega.{arith}
 use native.Mathlib.Nat.{not-suc-le-zero}
 use lib.Dec.{ltb}
-use lib.IntN.{ℤ, pos, _*ℤ_}
-use lib.ListN.{length, getD}
+use lib.IntN.{pos, _*ℤ_}
+use lib.ListN.{length, take}
 use lib.Signed.{_<ℤ_}
 use borrow.Author.Differences.{ints}
 use Rattle.std.specs.declared.result.Result.{Result}
 use Rattle.std.specs.declared.result.Result.the-variants.{Ok, Err}
-use Rattle.whole.specs.Lists.{tab, at, coord}
+use Rattle.std.proofs.shelf.Lists.{take-all}
+use Rattle.whole.specs.Lists.{tab}
 use Rattle.whole.proofs.Lists.{tab-length, getD-tab}
 use Rattle.whole.proofs.Sums.{sum-ext}
 use Rattle.linear.proofs.Outcomes.{not-accepted}
 use Rattle.records.specs.declared.refusal.Refusal.{Refusal}
 use Rattle.records.specs.declared.refusal.Refusal.the-variants.{Unfit, Count}
-use Rattle.records.specs.declared.relation.Relation.{Relation}
 use Rattle.rules.specs.Limits.{most-parameters}
 use Rattle.rules.specs.Values.{Coords, zeros, written}
 use Rattle.rules.specs.Sheets.{Sheet, no-bond}
+use Rattle.rules.specs.Pulling.{Placing}
 use Rattle.rules.specs.Calls.{opening}
 use Rattle.rules.specs.Runs.{Use, step, opened}
-use Rattle.rules.proofs.Bonds.{getD-written}
+use Rattle.rules.proofs.Bonds.{take-written}
 use Rattle.law.specs.Histories.{Entry, Told, at-opening, tell, told-from}
-use Rattle.law.specs.Law.{Kept-and-held, Lawful-entry, Lawful-from, Permitted, Made, Law-for-runs}
+use Rattle.law.specs.Placings.{Shaped, Same, All-hold}
+use Rattle.law.specs.Law.{shown, Kept-and-held, Lawful-entry, Lawful-from, Made, Law-for-runs}
 use Rattle.law.specs.Standing.{Standing, Stands-opened, Stands-on}
 use Rattle.law.proofs.Steps.{next}
 
@@ -52,7 +54,7 @@ stands-opened size n values s e rs qs proposal working places = by (ltb (length 
       few = omega arith;
       bound-is = refl;
       over-is = refl;
-      nums-are = λ p l c b. ap (λ (x : Coords). getD x c (pos 0)) (getD-written n (zeros n size) values [] (let z = long in omega arith) p l);
+      values-are = let z = long in take-written n (zeros n size) values (omega arith) ∙ take-all n (zeros n size) (omega arith);
       shaped = record {
         above = one;
         values = long;
@@ -69,17 +71,15 @@ stands-opened size n values s e rs qs proposal working places = by (ltb (length 
 
 -- ---- what stands makes an entry's values the kept ones
 shown-is : (size n : ℕ) (t : Told) (u : Use) → Standing size n t u → (e : Entry) → e .values ≡ u .values → e .d ≡ u .sheet .d → Kept-and-held size n t e
-shown-is size n t u S e same-values same-d =
-    let over : e .d ≡ t .kept .over = same-d ∙ S .over-is in
-    record {
-      above = subst (λ x. pos 0 <ℤ x) (sym over) (S .shaped .above);
-      shaped = S .shaped;
-      kept = λ p l c b i. sym over i *ℤ nums p l c b i;
-      holds = λ i l c b. sum-ext n (λ p k. ap (λ x. at (getD (t .bound) i no-bond .coefs) p *ℤ x) (nums p k c b)) ∙ S .holds i l c b ∙ ap (λ x. x *ℤ at (getD (t .bound) i no-bond .constant) c) (sym over);
-    }
+shown-is size n t u S e same-values same-d = record {
+  shaped = subst (λ (p : Placing). Shaped size n p) (sym same) (S .shaped);
+  kept-shaped = S .shaped;
+  kept = subst (λ (p : Placing). Same size n p (t .kept)) (sym same) (λ p l c b. refl);
+  holds = subst (λ (p : Placing). All-hold size n (t .bound) p) (sym same) (S .holds);
+}
   where
-    nums : (p : ℕ) → p < n → (c : ℕ) → c < size → coord (e .values) p c ≡ coord (t .kept .nums) p c
-    nums p l c b = ap (λ (xs : List Coords). coord xs p c) same-values ∙ S .nums-are p l c b
+    same : shown n e ≡ t .kept
+    same = λ i. record { over = (same-d ∙ S .over-is) i; nums = (ap (λ (xs : List Coords). take n xs) same-values ∙ S .values-are) i }
 
 pub stands-on : Stands-on
 stands-on size n t u S e P =

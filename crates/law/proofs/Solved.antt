@@ -6,8 +6,8 @@ use mathlib.Core.List.{List, [], _∷_}
 use Prim.Native.Nat.{ℕ, _<_}
 use native.Mathlib.Omega.{arith}
 use lib.IntN.{ℤ, pos, _*ℤ_, _+ℤ_}
-use lib.ListN.{getD, length}
-use lib.Signed.{quotZ, ltZ, _<ℤ_, _≤ℤ_}
+use lib.ListN.{length}
+use lib.Signed.{quotZ, ltZ, _<ℤ_}
 use borrow.Author.Differences.{ints}
 use Rattle.std.specs.declared.result.Result.{Result}
 use Rattle.std.specs.declared.result.Result.the-variants.{Ok, Err}
@@ -16,7 +16,7 @@ use Rattle.whole.proofs.Integers.{*->0, not-both, >0-by}
 use Rattle.whole.proofs.Lists.{tab-length, getD-tab}
 use Rattle.whole.proofs.Ring.{v, k, _⊕_, _⊗_, ring}
 use Rattle.linear.specs.Gram.{comb}
-use Rattle.linear.specs.Elimination.{Grid, entry}
+use Rattle.linear.specs.Elimination.{Grid}
 use Rattle.linear.specs.Meaning.{Meaning}
 use Rattle.linear.specs.Products.{InnerProduct}
 use Rattle.linear.specs.Placings as Low
@@ -37,8 +37,7 @@ use Rattle.law.specs.Placings.{Shaped, Same, All-hold, Meets, Nearer}
 use Rattle.law.proofs.Divided as Divided
 use Rattle.law.proofs.Divided.{coord-grid, over-exact, coord-exact, h-above}
 use Rattle.law.proofs.Multipliers as Multipliers
-use Rattle.law.proofs.Multipliers.{hs, ps, l, xs, l-above, loud}
-use Rattle.law.proofs.Offers as Offers
+use Rattle.law.proofs.Multipliers.{hs, l, xs, l-above, loud}
 use Rattle.law.proofs.Offers.{V, W, base, lack, carried-is, numerators-are, weighted, shares-≥0, meets-there, agrees-there, meets-here, nearer-here}
 
 grid-shaped : (size n : ℕ) (e : ℤ) (f : ℕ → ℕ → ℤ) → pos 0 <ℤ e → Shaped size n (record { over = e; nums = grid n size f })

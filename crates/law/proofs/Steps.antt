@@ -1,6 +1,6 @@
 -- Each call keeps what stands between the sheet in use and what its history told.
 use mathlib.Core.Path.{_≡_, refl, sym, ap, _∙_, subst}
-use mathlib.Core.Logic.{_≢_, _⊎_, ⊎-elim}
+use mathlib.Core.Logic.{_⊎_, ⊎-elim}
 use mathlib.Core.Bool.{Bool, true, false, cond, not, _||_}
 use mathlib.Core.List.{List, [], _∷_, _++_}
 use Prim.Native.Nat.{ℕ, _+_, _-_, _≤_, _<_}
@@ -18,33 +18,28 @@ use Rattle.std.proofs.shelf.Lists.{getD-append-left, getD-push, length-push, ge
 use Rattle.std.proofs.shelf.Tests.{or-parts, not-false, ltb-false, leb-false, cases-lt}
 use Rattle.whole.specs.Lists.{at, coord}
 use Rattle.whole.specs.Sums.{sum}
-use Rattle.whole.specs.Tests.{any, nonzero, differ}
+use Rattle.whole.specs.Tests.{any, nonzero}
 use Rattle.whole.proofs.Lists.{tab-length}
 use Rattle.whole.proofs.Sums.{sum-ext}
 use Rattle.whole.proofs.Tests.{any-false, differ-false}
-use Rattle.linear.specs.Elimination.{Grid}
-use Rattle.linear.proofs.Meaning.{finished}
-use Rattle.linear.proofs.Outcomes.{passed, went-on, not-accepted}
-use Rattle.records.specs.Outcomes.{guard, onward}
+use Rattle.linear.proofs.Outcomes.{passed, not-accepted}
 use Rattle.records.specs.declared.refusal.Refusal.{Refusal}
-use Rattle.records.specs.declared.refusal.Refusal.the-variants.{Unfit, Full, Coefficients, Constant, Untrue, NoRelation, Roles, Crowded, NotOpen}
-use Rattle.records.specs.declared.relation.Relation.{Relation}
+use Rattle.records.specs.declared.refusal.Refusal.the-variants.{Unfit, Full, Coefficients, Constant, Untrue, NoRelation, NotOpen}
 use Rattle.records.specs.declared.role.Role.{Role}
-use Rattle.rules.specs.Limits.{most-counted}
 use Rattle.rules.specs.Values.{Coords, written}
 use Rattle.rules.specs.Sheets.{Sheet, Bond, bond, no-bond, bonds, Workings, bad-coefs, bad-constant, unfit-values, unfit}
-use Rattle.rules.specs.Gripping.{role, counted, coef, share, shares, bad-roles, table}
 use Rattle.rules.specs.Pulling.{Placing}
-use Rattle.rules.specs.Calls.{bind-answer, bind-by, untrue, unbind-answer, unbind-by, grip-on, grip-answer, spare-numbers, keeping, pulling}
-use Rattle.rules.specs.Runs.{Phase, free, gripped, proposing, Use, Call, bind, unbind, grip, pull, keep, drop-grip, Given, nothing, spares, Reply, Answers, rebound, held-by, told, freed, in-turn}
-use Rattle.rules.proofs.Bonds.{nth, bonds-bound, bonds-unbound, bonds-marked, getD-written}
-use Rattle.rules.proofs.Fit.{fit-values, Long, long-lists}
-use Rattle.rules.proofs.Roles.{good-weights, share-≥0}
+use Rattle.rules.specs.Calls.{bind-answer, bind-by, untrue, unbind-answer, unbind-by, grip-answer, keeping, pulling}
+use Rattle.rules.specs.Runs.{Phase, free, gripped, proposing, Use, Call, bind, unbind, grip, pull, keep, drop-grip, nothing, Reply, Answers, rebound, held-by, told, freed, in-turn}
+use Rattle.rules.proofs.Bonds.{nth, bonds-bound, bonds-unbound, bonds-marked, take-written}
+use Rattle.rules.proofs.Fit.{fit-values, long-lists}
+use Rattle.rules.proofs.Roles.{good-weights}
 use Rattle.law.specs.Placings.{Holds, All-hold}
 use Rattle.law.specs.Histories.{Told, tell}
 use Rattle.law.specs.Law.{Lawful-reply}
 use Rattle.law.specs.Standing.{Gripped-well, Proposed-well, Phase-stands, Standing}
-use Rattle.law.proofs.Pulls.{pull-stands}
+use Rattle.law.proofs.Facts.{accepted-grip}
+use Rattle.law.proofs.Pulls.{kept-nums, pull-stands}
 
 -- ---- relations added and removed
 module _ (size n : ℕ) (p : Placing) where
@@ -77,14 +72,14 @@ module _ (size n : ℕ) (t : Told) (u : Use) (S : Standing size n t u) where
   -- a relation that holds for the sheet's values holds for the kept values
   for-kept : (b : Bond) → ((c : ℕ) → c < size → sum (s .count) (λ p. at (b .coefs) p *ℤ coord (u .values) p c) ≡ s .d *ℤ at (b .constant) c) → Holds size n (t .kept) b
   for-kept b h c l =
-      sum-ext n (λ p k. ap (λ x. at (b .coefs) p *ℤ x) (sym (S .nums-are p k c l)))
+      sum-ext n (λ p k. ap (λ x. at (b .coefs) p *ℤ x) (sym (kept-nums size n t u S p k c l)))
       ∙ ap (λ (N : ℕ). sum N (λ p. at (b .coefs) p *ℤ coord (u .values) p c)) (sym (S .count-is))
       ∙ h c l ∙ ap (λ x. x *ℤ at (b .constant) c) (S .over-is)
 
   -- ---- binding
   bind-stands : (cs : List ℤ) (q : Coords) (a : Result (Unit {0}) Refusal) → bind-answer size s (u .values) (u .relations) (u .constants) cs q ≡ a
       → let o = rebound u (bind-by a s (u .relations) (u .constants) cs q) in Standing size n (tell n t (bind cs q) (o .reply)) (o .then)
-  bind-stands cs q (Err k) e = record { count-is = S .count-is; few = S .few; bound-is = S .bound-is; over-is = S .over-is; nums-are = S .nums-are; shaped = S .shaped; holds = S .holds; phase-is = tt }
+  bind-stands cs q (Err k) e = record { count-is = S .count-is; few = S .few; bound-is = S .bound-is; over-is = S .over-is; values-are = S .values-are; shaped = S .shaped; holds = S .holds; phase-is = tt }
   bind-stands cs q (Ok x) e =
       let a1 = passed (ltb (length cs) (s .count) || unfit size s (u .values) (u .relations) (u .constants)) Unfit _ x e in
       let o1 = or-parts (ltb (length cs) (s .count)) _ (a1 .0) in
@@ -100,7 +95,7 @@ module _ (size n : ℕ) (t : Told) (u : Use) (S : Standing size n t u) where
         bound-is = bonds-bound (s .count) (s .bound) (s .d) (s .d) (u .relations) (u .constants) cs q (omega (arith, L .relations-long)) (omega (arith, L .constants-long)) (ltb-false _ _ (o1 .0))
             ∙ (λ i. S .bound-is i ++ (bond (S .count-is i) cs q ∷ []));
         over-is = S .over-is;
-        nums-are = S .nums-are;
+        values-are = S .values-are;
         shaped = S .shaped;
         holds = all-more size n (t .kept) (t .bound) (bond n cs q) (S .holds) (subst (λ (N : ℕ). Holds size n (t .kept) (bond N cs q)) (S .count-is)
             (for-kept (bond (s .count) cs q) (λ c l. differ-false _ _ (any-false size _ (a6 .0) c l))));
@@ -113,7 +108,7 @@ module _ (size n : ℕ) (t : Told) (u : Use) (S : Standing size n t u) where
 
   unbind-stands : (i : ℤ) (a : Result (Unit {0}) Refusal) → unbind-answer size s (u .values) (u .relations) (u .constants) i ≡ a
       → let o = rebound u (unbind-by a s (u .relations) (u .constants) (natAbs i)) in Standing size n (tell n t (unbind i) (o .reply)) (o .then)
-  unbind-stands i (Err k) e = record { count-is = S .count-is; few = S .few; bound-is = S .bound-is; over-is = S .over-is; nums-are = S .nums-are; shaped = S .shaped; holds = S .holds; phase-is = tt }
+  unbind-stands i (Err k) e = record { count-is = S .count-is; few = S .few; bound-is = S .bound-is; over-is = S .over-is; values-are = S .values-are; shaped = S .shaped; holds = S .holds; phase-is = tt }
   unbind-stands i (Ok x) e =
       let a1 = passed (unfit size s (u .values) (u .relations) (u .constants)) Unfit _ x e in
       let L = long-lists size s (u .values) (u .relations) (u .constants) (a1 .0) in
@@ -126,7 +121,7 @@ module _ (size n : ℕ) (t : Told) (u : Use) (S : Standing size n t u) where
         few = let f = S .few in omega arith;
         bound-is = bonds-unbound (s .count) (s .bound) (s .d) (s .d) (u .relations) (u .constants) (natAbs i) lt (let f = S .few in omega (arith, L .relations-long)) (let f = S .few in omega (arith, L .constants-long)) ∙ ap (λ (xs : List Bond). removed xs (natAbs i)) (S .bound-is);
         over-is = S .over-is;
-        nums-are = S .nums-are;
+        values-are = S .values-are;
         shaped = S .shaped;
         holds = all-removed size n (t .kept) (t .bound) (natAbs i) (omega arith) (S .holds);
         phase-is = tt;
@@ -137,26 +132,8 @@ module _ (size n : ℕ) (t : Told) (u : Use) (S : Standing size n t u) where
   grip-well : (roles : List Role) (w : Workings) → grip-answer size s (u .values) (u .relations) (u .constants) roles (replicate (u .places) 0) ≡ Ok w
       → Gripped-well (s .count) bs (take (s .count) roles) w
   grip-well roles w e =
-      let ρ = take (s .count) roles in
-      let a1 = passed (ltb (length roles) (s .count) || ltb (length (replicate (u .places) 0)) most-counted || unfit size s (u .values) (u .relations) (u .constants)) Unfit _ w e in
-      let a8 = passed (bad-roles (s .count) ρ) Roles _ w (a1 .1) in
-      let a9 = passed (ltb most-counted (length (counted (s .count) ρ bs))) Crowded _ w (a8 .1) in
-      let g = went-on (table (s .count) ρ (counted (s .count) ρ bs)) _ w (a9 .1) in
-      made ρ w (g .0) (a8 .0) (g .1) (g .2)
-    where
-      made : (ρ : List Role) (w : Workings) (y : Grid) → bad-roles (s .count) ρ ≡ false → table (s .count) ρ (counted (s .count) ρ bs) ≡ Ok y
-          → _≡_ {A = Result Workings Refusal} (Ok (record { count = s .count; m = length (counted (s .count) ρ bs); table = y; roles = ρ; shares = shares (s .count) ρ })) (Ok w)
-          → Gripped-well (s .count) bs ρ w
-      made ρ w y good q h =
-          let weights = good-weights (s .count) ρ good in
-          let new : Workings = record { count = s .count; m = length (counted (s .count) ρ bs); table = y; roles = ρ; shares = shares (s .count) ρ } in
-          let same : new ≡ w = cc in
-          subst (λ (x : Workings). Gripped-well (s .count) bs ρ x) same (record {
-            roles-are = refl;
-            weights = weights;
-            shares-are = refl;
-            means = finished (s .count) (length (counted (s .count) ρ bs)) (λ p. share (role ρ p)) (coef (counted (s .count) ρ bs)) y (λ p l. share-≥0 (role ρ p) (weights p l)) q;
-          })
+      let W = accepted-grip size s (u .values) (u .relations) (u .constants) roles (replicate (u .places) 0) w e in
+      record { roles-are = W .roles-are; weights = good-weights (s .count) (take (s .count) roles) (W .good); shares-are = W .shares-are; means = W .means }
 
   told-grip : (roles : List Role) (w : Workings) → Gripped-well (s .count) bs (take (s .count) roles) w → Gripped-well n (t .bound) (take n roles) w
   told-grip roles w G = subst (λ (N : ℕ). Gripped-well N (t .bound) (take N roles) w) (S .count-is) (subst (λ (xs : List Bond). Gripped-well (s .count) xs (take (s .count) roles) w) (S .bound-is) G)
@@ -169,7 +146,7 @@ module _ (size n : ℕ) (t : Told) (u : Use) (S : Standing size n t u) where
     few = S .few;
     bound-is = bonds-marked s (u .relations) (u .constants) (w .roles) (w .table) ∙ S .bound-is;
     over-is = S .over-is;
-    nums-are = S .nums-are;
+    values-are = S .values-are;
     shaped = S .shaped;
     holds = S .holds;
     phase-is = told-grip roles w (grip-well roles w e);
@@ -186,11 +163,9 @@ module _ (size n : ℕ) (t : Told) (u : Use) (S : Standing size n t u) where
       kept : Bool → Result Sheet Refusal × List Coords
       kept b = cond b (Err Unfit, u .values) (Ok new, written (s .count) (u .proposal) (u .values))
 
-      nums : s .count ≤ length (u .proposal) → (p : ℕ) → p < n → (c : ℕ) → c < size → coord (written (s .count) (u .proposal) (u .values)) p c ≡ coord (t .proposal .nums) p c
-      nums long p l c b =
-          let f = S .count-is in
-          ap (λ (x : Coords). getD x c (pos 0)) (getD-written (s .count) (u .proposal) (u .values) [] long p (omega arith) ∙ sym (getD-take n (u .proposal) p [] l))
-          ∙ ap (λ (xs : List Coords). coord xs p c) (P .nums-are)
+      values : s .count ≤ length (u .proposal) → take n (written (s .count) (u .proposal) (u .values)) ≡ t .proposal .nums
+      values long = ap (λ (N : ℕ). take N (written (s .count) (u .proposal) (u .values))) (sym (S .count-is)) ∙ take-written (s .count) (u .proposal) (u .values) long
+          ∙ ap (λ (N : ℕ). take N (u .proposal)) (S .count-is) ∙ P .nums-are
 
       by : (b : Bool) → (unfit size s (u .values) (u .relations) (u .constants) || unfit-values size (s .count) e (u .proposal)) ≡ b
           → Answers (freed u (kept b .0) (kept b .1) .reply) r → Standing size n (tell n t keep r) (freed u (kept b .0) (kept b .1) .then)
@@ -200,7 +175,7 @@ module _ (size n : ℕ) (t : Told) (u : Use) (S : Standing size n t u) where
         few = S .few;
         bound-is = S .bound-is;
         over-is = P .over-is;
-        nums-are = nums (fit-values size (s .count) e (u .proposal) (or-parts (unfit size s (u .values) (u .relations) (u .constants)) _ q .1) .long);
+        values-are = values (fit-values size (s .count) e (u .proposal) (or-parts (unfit size s (u .values) (u .relations) (u .constants)) _ q .1) .long);
         shaped = P .shaped;
         holds = P .holds;
         phase-is = tt;
@@ -208,7 +183,7 @@ module _ (size n : ℕ) (t : Told) (u : Use) (S : Standing size n t u) where
 
   drop-stands : (r : Reply) → r ≡ Ok nothing → Standing size n (tell n t drop-grip r) (freed u (Ok s) (u .values) .then)
   drop-stands r h = subst (λ (x : Reply). Standing size n (tell n t drop-grip x) (freed u (Ok s) (u .values) .then)) (sym h)
-      (record { count-is = S .count-is; few = S .few; bound-is = S .bound-is; over-is = S .over-is; nums-are = S .nums-are; shaped = S .shaped; holds = S .holds; phase-is = tt })
+      (record { count-is = S .count-is; few = S .few; bound-is = S .bound-is; over-is = S .over-is; values-are = S .values-are; shaped = S .shaped; holds = S .holds; phase-is = tt })
 
   -- ---- any call, in any phase
   abbrev After : Call → Reply → Use → Type 0

@@ -3,8 +3,8 @@ use mathlib.Core.Path.{_≡_}
 use mathlib.Core.Logic.{_≢_, _↔_}
 use mathlib.Core.List.{List, [], _∷_}
 use Prim.Native.Nat.{ℕ}
-use lib.IntN.{ℤ, pos}
-use lib.Signed.{_<ℤ_}
+use lib.IntN.{ℤ}
+use lib.ListN.{take}
 use Rattle.std.specs.declared.result.Result.the-variants.{Ok, Err}
 use Rattle.linear.specs.Products.{InnerProduct}
 use Rattle.records.specs.declared.refusal.Refusal.the-variants.{Unfit, WishTooFar, GapTooLarge, Impossible, NotOpen}
@@ -17,16 +17,16 @@ use Rattle.rules.specs.Runs.{Use, Call, bind, unbind, grip, pull, keep, drop-gr
 use Rattle.law.specs.Placings.{Shaped, Same, All-hold, Meets, Nearer}
 use Rattle.law.specs.Histories.{Entry, Told, at-opening, tell}
 
--- The sheet's values over d as a placing.
-abbrev pub shown : Entry → Placing
-shown e = record { over = e .d; nums = e .values }
+-- The sheet's values over d as a placing of n parameters.
+abbrev pub shown : ℕ → Entry → Placing
+shown n e = record { over = e .d; nums = take n (e .values) }
 
 -- (a) The sheet's values are the kept values, over a denominator above 0, and every bound relation holds exactly for them.
 pub record Kept-and-held (size n : ℕ) (t : Told) (e : Entry) : Type 0 where
-  pub above : pos 0 <ℤ e .d
-  pub shaped : Shaped size n (t .kept)
-  pub kept : Same size n (shown e) (t .kept)
-  pub holds : All-hold size n (t .bound) (shown e)
+  pub shaped : Shaped size n (shown n e)
+  pub kept-shaped : Shaped size n (t .kept)
+  pub kept : Same size n (shown n e) (t .kept)
+  pub holds : All-hold size n (t .bound) (shown n e)
 
 -- A placing meets all that a pull to these wishes has to meet.
 abbrev pub Meets-all : ℕ → ℕ → Told → List Coords → Placing → Type 0

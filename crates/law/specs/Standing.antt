@@ -6,7 +6,6 @@ use Prim.Native.Nat.{ℕ, _≤_, _<_}
 use lib.IntN.{ℤ}
 use lib.ListN.{length, take}
 use Rattle.std.specs.declared.result.Result.the-variants.{Ok}
-use Rattle.whole.specs.Lists.{coord}
 use Rattle.linear.specs.Meaning.{Meaning}
 use Rattle.records.specs.declared.relation.Relation.{Relation}
 use Rattle.records.specs.declared.role.Role.{Role}
@@ -45,7 +44,7 @@ pub record Standing (size n : ℕ) (t : Told) (u : Use) : Type 0 where
   pub few : u .sheet .bound ≤ most-relations
   pub bound-is : bonds (u .sheet) (u .relations) (u .constants) ≡ t .bound
   pub over-is : u .sheet .d ≡ t .kept .over
-  pub nums-are : (s : ℕ) → s < n → (c : ℕ) → c < size → coord (u .values) s c ≡ coord (t .kept .nums) s c
+  pub values-are : take n (u .values) ≡ t .kept .nums
   pub shaped : Shaped size n (t .kept)
   pub holds : All-hold size n (t .bound) (t .kept)
   pub phase-is : Phase-stands size n t (u .proposal) (u .phase)

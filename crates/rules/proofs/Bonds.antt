@@ -1,6 +1,6 @@
 -- The bound relations, read off the lists, after each call.
 use mathlib.Core.Path.{_≡_, refl, sym, ap, ap₂, _∙_}
-use mathlib.Core.Logic.{_≢_, _⊎_, inl, inr, ⊎-elim}
+use mathlib.Core.Logic.{_≢_, _⊎_, ⊎-elim}
 use mathlib.Core.List.{List, [], _∷_, _++_}
 use Prim.Native.Nat.{ℕ, zero, suc, _+_, _-_, _≤_, _<_}
 use native.Mathlib.Omega.{arith}
@@ -9,7 +9,7 @@ use lib.IntN.{ℤ, pos}
 use lib.ListN.{length, getD, set, take, drop, replicate}
 use Rattle.std.specs.Holes.{removed}
 use Rattle.std.proofs.shelf.Edits.{length-removed, getD-removed-below, getD-removed-above}
-use Rattle.std.proofs.shelf.Lists.{getD-append-left, getD-append-right, getD-take, getD-drop, getD-set-same, getD-set-other, length-append, length-take-le, length-drop, take-at, take-all}
+use Rattle.std.proofs.shelf.Lists.{getD-append-left, getD-append-right, getD-take, getD-drop, getD-set-same, getD-set-other, length-append, length-take-le, length-drop, take-at}
 use Rattle.std.proofs.shelf.Tests.{cases-lt}
 use Rattle.records.specs.declared.relation.Mark.the-variants.{Idle}
 use Rattle.records.specs.declared.relation.Relation.{Relation}

@@ -1,13 +1,13 @@
 -- The bounds on the numbers that the calls work out.
 use mathlib.Core.Path.{_≡_, refl, sym, ap, subst, _∙_}
 use mathlib.Core.Logic.{_⊎_, inl, inr}
-use mathlib.Core.Bool.{Bool, true, false, not, cond, _&&_, true≢false}
+use mathlib.Core.Bool.{Bool, true, false, not, _&&_, true≢false}
 use mathlib.Core.List.{List}
 use Prim.Native.Nat.{ℕ, zero, suc, _+_, _*_, _/_, _≤_, _<_}
 use native.Mathlib.Omega.{arith}
 use native.Mathlib.Nat.{mul-le-mul, div-le-self, le-trans}
 use lib.IntN.{ℤ, pos, natAbs, _+ℤ_, _-ℤ_, _*ℤ_, zero-*ℤ}
-use Rattle.std.proofs.shelf.Tests.{and-cases, and-parts, not-from-false}
+use Rattle.std.proofs.shelf.Tests.{and-cases}
 use Rattle.whole.specs.Lists.{at, coord}
 use Rattle.whole.specs.Sums.{sum}
 use Rattle.whole.specs.Tests.{any, tally, above}

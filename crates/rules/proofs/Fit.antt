@@ -1,6 +1,6 @@
 -- What it means that a sheet and its lists fit.
-use mathlib.Core.Path.{_≡_, sym, ap, subst, _∙_}
-use mathlib.Core.Bool.{Bool, false, _||_}
+use mathlib.Core.Path.{_≡_, sym, subst}
+use mathlib.Core.Bool.{false, _||_}
 use mathlib.Core.List.{List, []}
 use Prim.Native.Nat.{ℕ, _*_, _≤_, _<_}
 use native.Mathlib.Decide.{decLt}
@@ -14,16 +14,13 @@ use borrow.Author.Differences.{ints}
 use Rattle.std.proofs.shelf.Lists.{getD-past}
 use Rattle.std.proofs.shelf.Tests.{ltb-false, or-parts}
 use Rattle.records.specs.declared.relation.Relation.{Relation}
-use Rattle.records.specs.declared.role.Role.{Role}
 use Rattle.whole.specs.Lists.{at, coord}
 use Rattle.whole.specs.Tests.{any, above}
 use Rattle.whole.proofs.Lists.{getD-tab, tab-length}
 use Rattle.whole.proofs.Tests.{any-false, above-false}
 use Rattle.rules.specs.Values.{Coords}
-use Rattle.rules.specs.Sheets.{Sheet, Bond, bond, no-bond, bonds, relation-at, bad-denominator, bad-coefs, bad-relation, unfit-values, unfit-relations, unfit}
-use Rattle.rules.specs.Gripping.{counted, coef}
-use Rattle.rules.specs.Pulling.{const}
-use Rattle.rules.specs.Bounds.{Coefs-within, Constants-within, Fitting}
+use Rattle.rules.specs.Sheets.{Sheet, Bond, bond, no-bond, bonds, relation-at, bad-denominator, bad-coefs, bad-relation, unfit-values, unfit}
+use Rattle.rules.specs.Bounds.{Fitting}
 use Rattle.rules.proofs.Counting.{counted-all}
 
 -- the values of n parameters over d fit

@@ -14,7 +14,6 @@ use Rattle.std.specs.declared.result.Result.the-variants.{Ok, Err}
 use Rattle.whole.specs.Lists.{at, coord}
 use Rattle.whole.specs.Sums.{sum}
 use Rattle.whole.specs.Tests.{any, nonzero, differ}
-use Rattle.linear.specs.Elimination.{Grid}
 use Rattle.records.specs.Outcomes.{guard, onward}
 use Rattle.records.specs.declared.refusal.Refusal.{Refusal}
 use Rattle.records.specs.declared.refusal.Refusal.the-variants.{Unfit, Count, Full, Coefficients, Constant, Untrue, NoRelation, Roles, Crowded}

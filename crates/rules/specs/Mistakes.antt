@@ -9,7 +9,6 @@ use Rattle.std.specs.declared.result.Result.the-variants.{Ok}
 use Rattle.whole.specs.Lists.{coord}
 use Rattle.whole.specs.Sums.{sum}
 use Rattle.linear.specs.Elimination.{Grid}
-use Rattle.records.specs.Outcomes.{onward}
 use Rattle.records.specs.declared.refusal.Refusal.{Refusal}
 use Rattle.records.specs.declared.role.Role.{Role}
 use Rattle.records.specs.declared.role.Role.the-variants.{Pulled}

@@ -1,6 +1,5 @@
 -- Worked sheets: series of calls with the replies they get, and lists before and after single calls.
 use mathlib.Core.Path.{_≡_}
-use mathlib.Core.Bool.{Bool, true, false}
 use mathlib.Core.List.{List, [], _∷_, _++_, map}
 use Prim.Native.Nat.{ℕ}
 use lib.IntN.{ℤ, pos, negℤ}
@@ -20,7 +19,7 @@ use Rattle.rules.specs.Values.{Coords, zeros}
 use Rattle.rules.specs.Sheets.{Sheet, Bond, Workings}
 use Rattle.rules.specs.Gripping.{table}
 use Rattle.rules.specs.Calls.{opening, recorded, binding, unbinding, grip-answer, marks-after, spare-numbers, pulling, keeping}
-use Rattle.rules.specs.Runs.{Call, bind, unbind, grip, pull, keep, drop-grip, Given, nothing, spares, placing, Reply, opened, replies}
+use Rattle.rules.specs.Runs.{Call, bind, unbind, grip, pull, keep, drop-grip, nothing, spares, placing, Reply, opened, replies}
 
 abbrev pub neg : ℕ → ℤ
 neg n = negℤ (pos n)

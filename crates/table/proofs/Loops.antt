@@ -23,7 +23,6 @@ use Rattle.table.specs.declared.table.Table.{Table}
 use Rattle.table.specs.Rows.{changed, row-beyond}
 use Rattle.table.specs.Tables.{no-row, cell, grid}
 use Rattle.table.proofs.Grids.{row-grid, entry-grid, cell-size, cell-fits}
-use Rattle.table.proofs.Sizes.{zero-bits, nonzero-bits}
 use Rattle.table.proofs.Steps.{next-step, fits-limit, passes-limit, refused-stays, spare-step, step-beyond, all-turned}
 use Rattle.table.proofs.Turns.{Turning, new-row-length, row-old, turning-left, turning-changed, row-too-large}
 
@@ -35,15 +34,15 @@ module _ (m k : ℕ) (s : Grid) (t : Table) (so : eliminated m k s ≡ Ok (grid 
   diagonal : entry (grid m t) k k ≡ cell t k k
   diagonal = entry-grid m t k k k<m (omega arith)
 
-  pub spare : ofZ w64 (cell t k k) ≡ 0 → eliminated m (k + 1) s ≡ Ok (grid m t)
-  spare e =
-      next-step m k s (grid m t) so
-      ∙ ap (within-limit m) (spare-step m k (grid m t) (ap is-zero diagonal ∙ zero-bits (cell t k k) (cell-fits m t small k k k<m (omega arith)) e))
-      ∙ fits-limit m (grid m t) small
+  pivot : toZ w64 (ofZ w64 (cell t k k)) ≡ entry (grid m t) k k
+  pivot = toZ-ofZ w64 (cell t k k) (cell-fits m t small k k k<m (omega arith)) ∙ sym diagonal
 
-  module _ (nonzero : ofZ w64 (cell t k k) ≡ 0 → ⊥) where
+  pub spare : true ≡ is-zero (toZ w64 (ofZ w64 (cell t k k))) → eliminated m (k + 1) s ≡ Ok (grid m t)
+  spare e = next-step m k s (grid m t) so ∙ ap (within-limit m) (spare-step m k (grid m t) (sym (e ∙ ap is-zero pivot))) ∙ fits-limit m (grid m t) small
+
+  module _ (nonzero : false ≡ is-zero (toZ w64 (ofZ w64 (cell t k k)))) where
     needed : is-zero (entry (grid m t) k k) ≡ false
-    needed = ap is-zero diagonal ∙ nonzero-bits (cell t k k) nonzero
+    needed = sym (nonzero ∙ ap is-zero pivot)
 
     pub ended : (t′ : Table) → Turning m k (grid m t) m t′ → eliminated m (k + 1) s ≡ Ok (grid m t′)
     ended t′ T =
@@ -89,7 +88,7 @@ module _ (m k : ℕ) (s : Grid) (t : Table) (so : eliminated m k s ≡ Ok (grid 
         made-so : row .cells ≡ changed (m + m) (entry (grid m t) k k) (entry (grid m t) i k) (getD (t′ .rows) i no-row .cells) (getD (t .rows) k no-row .cells)
         made-so =
             made ∙ ap₂ (λ (p q : ℤ). changed (m + m) p q (getD (t′ .rows) i no-row .cells) (getD (t .rows) k no-row .cells))
-            (toZ-ofZ w64 (cell t k k) (cell-fits m t small k k k<m (omega arith)) ∙ sym diagonal) (toZ-ofZ w64 (cell t′ i k) number-fits ∙ number)
+            pivot (toZ-ofZ w64 (cell t′ i k) number-fits ∙ number)
 
         changes : (eqb i k || is-zero (entry (grid m t) i k)) ≡ false
         changes = tested false asked

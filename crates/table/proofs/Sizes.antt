@@ -1,6 +1,5 @@
 -- Sizes of the numbers of a step.
 use mathlib.Core.Path.{_≡_, refl, sym, ap, ap₂, _∙_}
-use mathlib.Core.Bool.{true, false}
 use mathlib.Core.List.{List, [], _∷_}
 use Prim.Native.Nat.{ℕ, zero, suc, _+_, _*_, _/_, _^_, _<_, _≤_}
 use native.Mathlib.Omega.{arith}
@@ -14,7 +13,6 @@ use Rattle.std.proofs.shelf.Signed.{toZ-ofZ}
 use Rattle.std.specs.Iters.{folded}
 use Rattle.whole.specs.Gcd.{gcd, gcd-all}
 use Rattle.whole.specs.Lists.{tab, at}
-use Rattle.whole.specs.Tests.{is-zero}
 use Rattle.whole.proofs.Divisors.{gcd-right}
 use Rattle.whole.proofs.Sizes.{product-≤, natAbs--, fits}
 use Rattle.linear.specs.Elimination.{table-limit}
@@ -70,14 +68,3 @@ pub tab-within : (n w : ℕ) (f : ℕ → ℤ) → ((j : ℕ) → j < w → natA
 tab-within n zero f h j = omega arith
 tab-within n (suc w) f h zero = h 0 (omega arith)
 tab-within n (suc w) f h (suc j) = tab-within n w (λ i. f (suc i)) (λ i l. h (suc i) (omega arith)) j
-
--- the bits are 0 exactly where the number is
-pub zero-bits : (z : ℤ) → SFits w64 z → ofZ w64 z ≡ 0 → is-zero z ≡ true
-zero-bits (pos zero) f e = refl
-zero-bits (pos (suc n)) f e = absurd (omega arith)
-zero-bits (negsuc n) f e = absurd (omega (arith, f .sfits))
-
-pub nonzero-bits : (z : ℤ) → (ofZ w64 z ≡ 0 → ⊥) → is-zero z ≡ false
-nonzero-bits (pos zero) n = absurd (n refl)
-nonzero-bits (pos (suc m)) n = refl
-nonzero-bits (negsuc m) n = refl

@@ -9,6 +9,13 @@ ghost use Rattle.whole.specs.Tests.{is-zero};
 use crate::table::Table;
 use records::Refusal;
 
+// Whether a pivot makes its relation spare: then the step leaves the whole table as it is.
+fn spare(pivot: i64) -> bool
+    ensures { λ r. ⌜ r ≡ is-zero pivot ⌝ }
+{
+    pivot == 0
+}
+
 // Whether step k leaves row i as it is: it is the pivot row, or its number q in column k is 0.
 fn stays(i: usize, k: usize, q: i64) -> bool
     ensures { λ r. ⌜ r ≡ (eqb i k || is-zero q) ⌝ }
@@ -27,7 +34,7 @@ impl Table {
             for k in 0..m {
                 let pivot = self.rows[k];
                 let p = pivot.cells[k];
-                if p == 0 {
+                if spare(p) {
                     continue;
                 }
                 for i in 0..m {

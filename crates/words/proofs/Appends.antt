@@ -25,14 +25,12 @@ done-map (Err e) P Q h p = p
 pub done-ok : {A : Type 0} (r : Result A Fault) (a : A) (P : Type 0) → r ≡ Ok a → Done r P → P
 done-ok r a P e d = subst (λ x. Done x P) e d
 
-pub one-digit : (n : ℕ) (before after : List ℕ) → n < 10 → after ≡ before ++ (48 + n % 10) ∷ [] → after ≡ before ++ decimal n
-one-digit n before after l e =
-    let m : 48 + n % 10 ≡ 48 + n = omega arith in
-    e ∙ ap (λ d. before ++ d ∷ []) m ∙ ap (λ ds. before ++ ds) (sym (decimal-digit n l))
+pub one-digit : (n d : ℕ) (before middle after : List ℕ) → after ≡ middle ++ d ∷ [] → middle ≡ before → n < 10 → d ≡ 48 + n → after ≡ before ++ decimal n
+one-digit n d before middle after e m l is = e ∙ (λ i. m i ++ is i ∷ []) ∙ ap (λ ds. before ++ ds) (sym (decimal-digit n l))
 
-pub digit-behind : (n : ℕ) (before middle after : List ℕ) → 10 ≤ n → n < 2 ^ 64 → middle ≡ before ++ decimal (n / 10) → after ≡ middle ++ (48 + n % 10) ∷ [] → after ≡ before ++ decimal n
-digit-behind n before middle after l s m e =
-    e ∙ ap (λ t. t ++ (48 + n % 10) ∷ []) m ∙ append-assoc before (decimal (n / 10)) ((48 + n % 10) ∷ []) ∙ ap (λ ds. before ++ ds) (sym (decimal-step n l s))
+pub digit-behind : (n d : ℕ) (before middle after : List ℕ) → 10 ≤ n → n < 2 ^ 64 → d ≡ 48 + n % 10 → middle ≡ before ++ decimal (n / 10) → after ≡ middle ++ d ∷ [] → after ≡ before ++ decimal n
+digit-behind n d before middle after l s is m e =
+    e ∙ (λ i. m i ++ is i ∷ []) ∙ append-assoc before (decimal (n / 10)) ((48 + n % 10) ∷ []) ∙ ap (λ ds. before ++ ds) (sym (decimal-step n l s))
 
 pub signed-above : (z : ℤ) (n : ℕ) → (z <ℤ pos 0 → ⊥) → n ≡ natAbs z → decimal n ≡ signed z
 signed-above (pos m) n h e = ap decimal e
@@ -41,3 +39,7 @@ signed-above (negsuc m) n h e = absurd (h (omega (arith, ints)))
 pub signed-below : (z : ℤ) (n : ℕ) → z <ℤ pos 0 → n ≡ natAbs z → 45 ∷ decimal n ≡ signed z
 signed-below (pos m) n h e = absurd (omega (arith, ints))
 signed-below (negsuc m) n h e = ap (λ k. 45 ∷ decimal k) e
+
+pub minus-behind : (z : ℤ) (n d : ℕ) (before middle after : List ℕ) → z <ℤ pos 0 → n ≡ natAbs z → d ≡ 45 → middle ≡ before ++ d ∷ [] → after ≡ middle ++ decimal n → after ≡ before ++ signed z
+minus-behind z n d before middle after l e is m a =
+    a ∙ ap (λ t. t ++ decimal n) (m ∙ ap (λ x. before ++ x ∷ []) is) ∙ append-assoc before (45 ∷ []) (decimal n) ∙ ap (λ ds. before ++ ds) (signed-below z n l e)

@@ -38,10 +38,10 @@ module _ (text : List ℕ) (start end : ℕ) (low : start ≤ end) (none : (k : 
   none-here : (k : ℕ) → k < end - start → getD (drop start text) k 0 ≡ 32 → ⊥
   none-here k l e = none (start + k) (omega arith) (omega arith) (sym (getD-drop start text k 0) ∙ e)
 
-  pub word-inner : end < length text → getD text end 0 ≡ 32 → pieces 32 (drop start text) ≡ take (end - start) (drop start text) ∷ pieces 32 (drop (end + 1) text)
-  word-inner l e =
+  pub word-inner : (next : ℕ) → next ≡ end + 1 → end < length text → getD text end 0 ≡ 32 → pieces 32 (drop start text) ≡ take (end - start) (drop start text) ∷ pieces 32 (drop next text)
+  word-inner next is l e =
       let back : start + (end - start) ≡ end = omega arith in
-      let after : start + suc (end - start) ≡ end + 1 = omega arith in
+      let after : start + suc (end - start) ≡ next = omega arith in
       pieces-more 32 (drop start text) (end - start) (omega (arith, length-drop start text)) none-here (getD-drop start text (end - start) 0 ∙ ap (λ n. getD text n 0) back ∙ e)
       ∙ ap (λ n. take (end - start) (drop start text) ∷ pieces 32 n) (drop-drop (suc (end - start)) start text ∙ ap (λ n. drop n text) after)
 

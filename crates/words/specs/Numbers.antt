@@ -15,10 +15,15 @@ pub record Plain (ds : List ℕ) (n : ℕ) : Type 0 where
   pub lead : getD ds 0 0 ≡ 48 → length ds ≡ 1
   pub says : value 10 ds ≡ n
 
--- an optional minus (byte 45), then such digits; 0 has no minus
+-- the digits that stand behind a minus; 0 has no minus
+abbrev pub Below : List ℕ → ℤ → Type 0
+Below ds (pos n) = ⊥
+Below ds (negsuc n) = Plain ds (suc n)
+
+-- an optional minus (byte 45), then such digits
 abbrev pub Number : List ℕ → ℤ → Type 0
 Number bs (pos n) = Plain bs n
-Number bs (negsuc n) = (ds : List ℕ) × (bs ≡ 45 ∷ ds) × Plain ds (suc n)
+Number bs (negsuc n) = (ds : List ℕ) × (bs ≡ 45 ∷ ds) × Below ds (negsuc n)
 
 -- the answer of a reader of a form: the value that is written, and none where no value is
 abbrev pub Exactly : {W V : Type 0} → (W → V → Type 0) → W → Option V → Type 0

@@ -4,6 +4,9 @@ ghost use Rattle.words.specs.Lines.{lines, uncut, CutOff, TextOf, Placed, Cuts
 use super::fault::Fault;
 use super::word::byte_from;
 
+// A line has at most so many bytes.
+const LINE: usize = 1024;
+
 // The lines of a card that are still to be read.
 #[derive(Drop)]
 pub struct Lines<'a> {
@@ -38,7 +41,7 @@ pub fn line_text<'a>(line: &'a [u8]) -> Option<&'a [u8]>
     ensures { λ r. ⌜ TextOf (now (line .entry)) r ⌝ }
 {
     let size = line.len();
-    if size == 0 || size > 1024 {
+    if size == 0 || size > LINE {
         return None;
     }
     if line[size - 1] != b'\n' {
@@ -52,7 +55,7 @@ pub fn place_line(line: &[u8], out: &mut [u8]) -> Result<usize, Fault>
     ensures { λ r. ⌜ Placed (now (line .entry)) (now (out .entry)) (now (out .exit)) r ⌝ }
 {
     let size = line.len();
-    if size > 1024 {
+    if size > LINE {
         return Err(Fault::Form);
     }
     if size > out.len() {

@@ -3,15 +3,18 @@ ghost use mathlib.Core.Path.{_≡_};
 ghost use mathlib.Core.List.{[], _∷_, _++_};
 ghost use Rattle.std.specs.Of.Vec.{vec-items};
 ghost use Rattle.std.specs.Written.{decimal, signed};
-ghost use Rattle.words.specs.Numbers.{Number, Plain, Exactly};
+ghost use Rattle.words.specs.Numbers.{Number, Plain, Below, Exactly};
 ghost use Rattle.words.specs.Faults.{Done};
 use super::fault::Fault;
+
+// A number has at most so many digits.
+const DIGITS: usize = 8;
 
 // The number that 1 to 8 digits write.
 fn parse_digits(digits: &[u8]) -> Option<u32>
     ensures { λ r. ⌜ Exactly Plain (now (digits .entry)) r ⌝ }
 {
-    if digits.is_empty() || digits.len() > 8 {
+    if digits.is_empty() || digits.len() > DIGITS {
         return None;
     }
     if digits[0] == b'0' && digits.len() > 1 {
@@ -27,23 +30,28 @@ fn parse_digits(digits: &[u8]) -> Option<u32>
     Some(n)
 }
 
+// The number that these digits write behind a minus.
+fn parse_below(digits: &[u8]) -> Option<i64>
+    ensures { λ r. ⌜ Exactly Below (now (digits .entry)) r ⌝ }
+{
+    match parse_digits(digits) {
+        Some(0) => None,
+        Some(n) => Some(-(n as i64)),
+        None => None,
+    }
+}
+
 // The number that a word writes.
 pub fn parse_number(word: &[u8]) -> Option<i64>
     ensures { λ r. ⌜ Exactly Number (now (word .entry)) r ⌝ }
 {
     if word.len() > 0 && word[0] == b'-' {
-        let Some(n) = parse_digits(&word[1..]) else {
-            return None;
-        };
-        if n == 0 {
-            return None;
-        }
-        return Some(-(n as i64));
+        return parse_below(&word[1..]);
     }
-    let Some(n) = parse_digits(word) else {
-        return None;
-    };
-    Some(n as i64)
+    match parse_digits(word) {
+        Some(n) => Some(n as i64),
+        None => None,
+    }
 }
 
 // Appends one byte.

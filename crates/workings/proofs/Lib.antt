@@ -4,3 +4,4 @@ pub mod Halves
 pub mod Shares
 pub mod Counting
 pub mod Made
+pub mod Bonds

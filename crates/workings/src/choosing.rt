@@ -5,12 +5,11 @@ ghost use Prim.Native.Nat.{_≤_};
 ghost use lib.Dec.{ltb};
 ghost use Rattle.records.specs.declared.refusal.Refusal.the-variants.{Crowded};
 ghost use Rattle.records.specs.Outcomes.{guard, image};
-ghost use Rattle.rules.specs.Gripping.{counted};
 ghost use Rattle.rules.specs.Sheets.{bad-coefs, relation-at};
 ghost use Rattle.std.specs.declared.result.Result.the-variants.{Ok};
 ghost use Rattle.std.specs.Vec.{made};
 ghost use Rattle.whole.specs.Tests.{any};
-ghost use Rattle.workings.specs.Chosen.{bare};
+ghost use Rattle.workings.specs.Chosen.{countable};
 ghost use Rattle.workings.specs.Rows.{coefficient-rows};
 use records::Refusal;
 use records::Relation;
@@ -44,8 +43,8 @@ pub(crate) fn some_out_of_range(relations: &[Relation], n: usize) -> bool
 // The relations that count by the roles, unless they are more than 12.
 pub(crate) fn choose(relations: &[Relation], roles: &[Role]) -> Result<Chosen, Refusal>
     requires { ⌜ length (now roles) ≤ 48 ⌝ }
-    ensures rows { λ r. ⌜ image (coefficient-rows (length (now (roles .entry)))) r ≡ guard (ltb 12 (length (counted (length (now (roles .entry))) (now (roles .entry)) (bare (length (now (roles .entry))) (now (relations .entry)))))) Crowded (Ok (map (λ b. b .coefs) (counted (length (now (roles .entry))) (now (roles .entry)) (bare (length (now (roles .entry))) (now (relations .entry)))))) ⌝ }
-    ensures many { λ r. ⌜ made r (λ c. c .m ≡ length (counted (length (now (roles .entry))) (now (roles .entry)) (bare (length (now (roles .entry))) (now (relations .entry))))) ⌝ }
+    ensures rows { λ r. ⌜ image (coefficient-rows (length (now (roles .entry)))) r ≡ guard (ltb 12 (length (countable (now (relations .entry)) (now (roles .entry))))) Crowded (Ok (map (λ b. b .coefs) (countable (now (relations .entry)) (now (roles .entry))))) ⌝ }
+    ensures many { λ r. ⌜ made r (λ c. c .m ≡ length (countable (now (relations .entry)) (now (roles .entry)))) ⌝ }
 {
     let mut rows = [[0; 48]; 12];
     let mut m = 0;

@@ -1,10 +1,7 @@
 ghost use lib.ListN.{length};
 ghost use mathlib.Core.Path.{_≡_};
-ghost use Rattle.records.specs.declared.refusal.Refusal.the-variants.{Unfit};
-ghost use Rattle.records.specs.Outcomes.{guard, image};
-ghost use Rattle.rules.specs.Calls.{grip-on};
-ghost use Rattle.workings.specs.Chosen.{bare, unready};
-ghost use Rattle.rules.specs.Gripping.{counted};
+ghost use Rattle.records.specs.Outcomes.{image};
+ghost use Rattle.workings.specs.Chosen.{countable, gripped};
 ghost use Rattle.std.specs.Vec.{made};
 ghost use Rattle.workings.specs.Facts.{Finished};
 ghost use Rattle.workings.specs.Shown.{shown};
@@ -24,8 +21,8 @@ const MOST_PARAMETERS: usize = 48;
 impl Workings {
     // The workings of a grip on these bound relations, with one role to a parameter.
     pub fn make(relations: &[Relation], roles: &[Role]) -> Result<Workings, Refusal>
-        ensures value { λ r. ⌜ image shown r ≡ guard (unready (now (relations .entry)) (now (roles .entry))) Unfit (grip-on (length (now (roles .entry))) (now (roles .entry)) (bare (length (now (roles .entry))) (now (relations .entry)))) ⌝ }
-        ensures facts { λ r. ⌜ made r (λ w. Finished (length (now (roles .entry))) (now (roles .entry)) (counted (length (now (roles .entry))) (now (roles .entry)) (bare (length (now (roles .entry))) (now (relations .entry)))) (shown w .table)) ⌝ }
+        ensures value { λ r. ⌜ image shown r ≡ gripped (now (relations .entry)) (now (roles .entry)) ⌝ }
+        ensures facts { λ r. ⌜ made r (λ w. Finished (length (now (roles .entry))) (now (roles .entry)) (countable (now (relations .entry)) (now (roles .entry))) (shown w .table)) ⌝ }
     {
         let count = roles.len();
         if count > MOST_PARAMETERS {

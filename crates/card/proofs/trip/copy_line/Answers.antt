@@ -11,4 +11,4 @@ returns-in-Break-read g c =
     rw (p .1, p .2) (refl, refuses-map (c .in-Break-read .field-0 .0) _ _ (λ none s p. absurd (none s p)) (c .in-Break-read .ensures tt))
 
 pub returns : need.returns
-returns g c = copied (g .V·Written .form) (g .V·Written·met .laws) (c .args .count) (said (c .in-Continue-read .read)) (c .args .line .now) (c .args .out .now) (c .write-line .last .out) (c .write-line .result) (c .in-Continue-read .ensures tt) (c .write-line .ensures)
+returns g c = copied (g .V·Written .form) (g .V·Written·met .laws) (c .args .count) (said (c .in-Continue-read .read)) _ (c .args .line .now) (c .args .out .now) (c .write-line .last .out) (c .write-line .result) (c .in-Continue-read .ensures tt) (c .write-line .ensures) (cc)

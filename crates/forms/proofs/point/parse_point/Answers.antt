@@ -5,7 +5,7 @@ use lib.ListN.{length, take, drop}
 use mir.Syntax.{w64}
 use mir.Val.{SFits}
 use borrow.Author.Needs.{needs}
-use Rattle.std.proofs.shelf.Signed.{toZ-ofZ}
+use Rattle.std.proofs.shelf.Signed.{ints}
 use Rattle.words.specs.Numbers.{Number}
 use Rattle.forms.proofs.Points.{no-comma, around, front-lacks, parts}
 use Rattle.forms.proofs.point.parse_point.Needs as need
@@ -38,6 +38,6 @@ returns c =
       first = take (n - 0) (drop 0 w);
       second = take (length w - (n + 1)) (drop (n + 1) w);
       comma = around w n inside (c .comma-in-comma .ensures .stops inside);
-      left = subst (Number _) (sym (toZ-ofZ w64 _ fx)) (c .in-Some .ensures tt);
-      right = subst (Number _) (sym (toZ-ofZ w64 _ fy)) (c .in-Some-parse-number .ensures tt);
+      left = subst (Number _) (omega (arith, ints)) (c .in-Some .ensures tt);
+      right = subst (Number _) (omega (arith, ints)) (c .in-Some-parse-number .ensures tt);
     }

@@ -20,7 +20,7 @@ pub returns-then-holds : need.returns-then-holds
 returns-then-holds c =
     let size = length-texts (c .args .names .now) in
     let h = c .if-holds .ensures tt .0 refl in
-    (λ e. absurd (false≢true e), λ ns. absurd (ns .distinct (h .0) (c .loop-i .i) (h .1) (omega arith) (h .3 ∙ sym (texts-at (c .args .names .now) (c .loop-i .i) _ (c .loop-i-test .taken)))))
+    (λ e. absurd (false≢true e), λ ns. absurd (ns .distinct (h .0) (c .loop-i .i) (omega (arith, h .1)) (omega arith) (h .3 ∙ sym (texts-at (c .args .names .now) (c .loop-i .i) _ (c .loop-i-test .taken)))))
 
 pub loop-i-holds : need.loop-i-holds
 loop-i-holds c = good-none (texts (c .args .names .now))
@@ -30,7 +30,7 @@ loop-i-again c =
     let size = length-texts (c .args .names .now) in
     let here = texts-at (c .args .names .now) (c .loop-i .i) _ (c .loop-i-test .taken) in
     good-more (texts (c .args .names .now)) (c .loop-i .i) (omega arith) (c .loop-i .inv) (subst Named (sym here) (c .if-not-is-name .ensures tt .0 refl))
-    (λ h. false≢true (c .if-holds .ensures tt .1 (h .0, h .1, h .2, h .3 ∙ here)))
+    (λ h. false≢true (c .if-holds .ensures tt .1 (h .0, omega (arith, h .1), h .2, h .3 ∙ here)))
 
 pub returns : need.returns
 returns c =

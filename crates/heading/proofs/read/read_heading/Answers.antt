@@ -1,4 +1,5 @@
 use mathlib.Core.List.{[]}
+use borrow.Author.Needs.{needs}
 use Rattle.std.specs.Of.Vec.{vec-items}
 use Rattle.std.specs.declared.option.Option.the-variants.{Some, None}
 use Rattle.std.proofs.shelf.Results.{err-from-errBy}
@@ -32,5 +33,6 @@ returns-in-Break-names c =
 
 pub returns : need.returns
 returns c =
-    head-done (c .args .line .now) (c .in-Some .text .now) (left (c .new-reader .result)) (left (c .next .last .self)) (c .in-Some .ensures tt) (c .new-reader .ensures .words) (c .in-Some-parse .kind) (texts (vec-items (c .in-Continue-names .names)))
-    (first-read kind-word kind-sort (c .new-reader .result) (c .next .last .self) (c .in-Some-next .word) (Some (c .in-Some-parse .kind)) (c .new-reader .ensures .first) (c .in-Some-next .ensures tt) (c .in-Some-parse .ensures tt)) (c .in-Continue-names .ensures tt .0) (c .in-Continue-names .ensures tt .1)
+    let done = head-done (c .args .line .now) (c .in-Some .text .now) (left (c .new-reader .result)) (left (c .next .last .self)) (c .in-Some .ensures tt) (c .new-reader .ensures .words) (c .in-Some-parse .kind) (texts (vec-items (c .in-Continue-names .names)))
+    (first-read kind-word kind-sort (c .new-reader .result) (c .next .last .self) (c .in-Some-next .word) (Some (c .in-Some-parse .kind)) (c .new-reader .ensures .first) (c .in-Some-next .ensures tt) (c .in-Some-parse .ensures tt)) (c .in-Continue-names .ensures tt .0) (c .in-Continue-names .ensures tt .1) in
+    search needs

@@ -15,16 +15,16 @@ pub returns-in-rest : need.returns-in-rest
 returns-in-rest c =
     no-name (left (c .args .reader .now)) (left (c .loop-reader .reader)) (texts (vec-items (c .loop-reader .names))) (c .loop-reader .inv .0) (left (c .next-name .last .reader)) (c .loop-reader-test .ensures tt) (c .in-rest .ensures tt .read)
 
-pub returns-then-len-ge48 : need.returns-then-len-ge48
-returns-then-len-ge48 c =
-    too-many (left (c .args .reader .now)) (left (c .loop-reader .reader)) (texts (vec-items (c .loop-reader .names))) (c .loop-reader .inv .0) _ _ (c .in-Some .ensures tt .read .1) (omega (arith, vec-texts (c .loop-reader .names), c .len .ensures, c .if-len-ge48 .taken))
+pub returns-then-len-ge-NAMES : need.returns-then-len-ge-NAMES
+returns-then-len-ge-NAMES c =
+    too-many (left (c .args .reader .now)) (left (c .loop-reader .reader)) (texts (vec-items (c .loop-reader .names))) (c .loop-reader .inv .0) _ _ (c .in-Some .ensures tt .read .1) (omega (arith, vec-texts (c .loop-reader .names), c .len .ensures, c .if-len-ge-NAMES .taken))
 
 pub returns-then-holds : need.returns-then-holds
 returns-then-holds c =
     let names = texts (vec-items (c .loop-reader .names)) in
     let size : c .len-in-loop-reader .result ≡ length names = c .len-in-loop-reader .ensures ∙ sym (vec-texts (c .loop-reader .names)) in
     twice (left (c .args .reader .now)) (left (c .loop-reader .reader)) names (c .loop-reader .inv .0) _ _ (c .in-Some .ensures tt .read .1)
-    (has-same _ names _ _ _ (ap texts (c .as-slice .ensures .value)) size (c .if-holds .ensures tt .0 refl))
+    (has-same _ names _ _ _ (c .if-holds .ensures tt .0 refl) (ap texts (c .as-slice .ensures .value)) (omega arith))
 
 pub loop-reader-holds : need.loop-reader-holds
 loop-reader-holds c = (subst (Taken (left (c .args .reader .now)) (left (c .args .reader .now))) (sym (ap texts (c .new-names .ensures .items))) (taken-none (left (c .args .reader .now))), c .pre)
@@ -33,8 +33,8 @@ pub loop-reader-again : need.loop-reader-again
 loop-reader-again c =
     let names = texts (vec-items (c .loop-reader .names)) in
     let size : c .len-in-loop-reader .result ≡ length names = c .len-in-loop-reader .ensures ∙ sym (vec-texts (c .loop-reader .names)) in
-    let more = taken-more (left (c .args .reader .now)) (left (c .loop-reader .reader)) names (c .loop-reader .inv .0) (c .in-Some .name .now) (left (c .next-name .last .reader)) (c .in-Some .ensures tt .read .1) (omega (arith, vec-texts (c .loop-reader .names), c .len .ensures, c .if-len-ge48 .left)) (c .in-Some .ensures tt .read .0)
-    (λ h. false≢true (c .if-holds .ensures tt .1 (has-same names _ _ _ _ (sym (ap texts (c .as-slice .ensures .value))) (sym size) h))) in
+    let more = taken-more (left (c .args .reader .now)) (left (c .loop-reader .reader)) names (c .loop-reader .inv .0) (c .in-Some .name .now) (left (c .next-name .last .reader)) (c .in-Some .ensures tt .read .1) (omega (arith, vec-texts (c .loop-reader .names), c .len .ensures, c .if-len-ge-NAMES .left)) (c .in-Some .ensures tt .read .0)
+    (λ h. false≢true (c .if-holds .ensures tt .1 (has-same names _ _ _ _ h (sym (ap texts (c .as-slice .ensures .value))) (omega arith)))) in
     (subst (Taken (left (c .args .reader .now)) (left (c .next-name .last .reader))) (sym (ap texts (c .in-Ok .ensures tt .items) ∙ texts-push (vec-items (c .loop-reader .names)) (c .in-Some .name))) more, c .in-Some .ensures tt .later)
 
 pub returns-then-is-empty : need.returns-then-is-empty

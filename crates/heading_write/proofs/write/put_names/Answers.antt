@@ -13,8 +13,8 @@ pub loop-name-again : need.loop-name-again
 loop-name-again c =
     let names = texts (c .args .names .now) in
     let size = length-texts (c .args .names .now) in
-    spaced-more names (c .loop-name .name-index) _ (vec-items (c .args .out .now)) (vec-items (c .loop-name .out)) (vec-items (c .append-bytes .last .out)) (vec-items (c .append-bytes-in-loop-name .last .out)) (omega arith)
-    (texts-at (c .args .names .now) (c .loop-name .name-index) _ (c .loop-name-test .taken)) (c .loop-name .inv) (c .in-Continue-append-bytes .ensures tt) (c .in-Continue-append-bytes-2 .ensures tt)
+    spaced-more names (c .loop-name .name-index) _ (vec-items (c .args .out .now)) (vec-items (c .loop-name .out)) (vec-items (c .append-bytes .last .out)) (vec-items (c .append-bytes-in-loop-name .last .out)) _ (omega arith)
+    (texts-at (c .args .names .now) (c .loop-name .name-index) _ (c .loop-name-test .taken)) (c .loop-name .inv) (c .in-Continue-append-bytes .ensures tt) (omega arith) (c .in-Continue-append-bytes-2 .ensures tt)
 
 pub returns : need.returns
 returns c =

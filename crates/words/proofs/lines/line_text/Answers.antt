@@ -10,7 +10,7 @@ pub returns-then-line-size-ne10 : need.returns-then-line-size-ne10
 returns-then-line-size-ne10 c = λ text l. c .if-line-size-ne10 .taken (last-byte (c .args .line .now) text 10 (l .whole))
 
 pub returns : need.returns
-returns c = record { whole = with-last (c .args .line .now) 10 (omega arith) (c .if-line-size-ne10 .left); short = c .if-size-gt1024 .left }
+returns c = record { whole = with-last (c .args .line .now) 10 (omega arith) (c .if-line-size-ne10 .left); short = omega arith }
 
 pub returns-then-size-eq0 : need.returns-then-size-eq0
 returns-then-size-eq0 c = λ text l.

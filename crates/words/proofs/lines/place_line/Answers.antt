@@ -1,4 +1,5 @@
 use mathlib.Core.Path.{refl}
+use native.Mathlib.Omega.{arith}
 use lib.ListN.{length}
 use Rattle.words.proofs.Cuts.{placed}
 use Rattle.words.proofs.lines.place_line.Needs as need
@@ -6,4 +7,4 @@ use Rattle.words.proofs.lines.place_line.Needs as need
 pub returns : need.returns
 returns c =
     let p = placed (c .copy-from-slice .last .self) (c .args .line .now) (c .args .out .now) (length (c .args .line .now)) (c .copy-from-slice .ensures .after) refl in
-    (p .0, p .1, c .if-size-out .left, c .if-size-gt1024 .left)
+    (p .0, p .1, omega arith, omega arith)

@@ -21,8 +21,9 @@ returns c =
     let word = take (c .byte-from-end .result - c .if-place-text .start) (drop (c .if-place-text .start) text) in
     elim (c .if-end-text .came) [
       | then-end-text w ↦
-          let rest : pending text (c .if-end-text .place) ≡ pieces 32 (drop (c .byte-from-end .result + 1) text) = ap (pending text) (w .place-is) ∙ cond-false _ _ _ (c .if-place .left) in
-          (first ∙ word-inner text _ _ (told .low) (told .none) (w .if-end-text .taken) (told .stops (w .if-end-text .taken)) ∙ ap (λ l. word ∷ l) (sym rest), ap (λ p. p .first) (w .place-is))
+          let is = ap (λ p. p .at) (w .place-is) in
+          let rest : pending text (c .if-end-text .place) ≡ pieces 32 (drop (c .if-end-text .place .at) text) = cond-false _ _ _ (ap (λ p. p .ended) (w .place-is) ∙ c .if-place .left) in
+          (first ∙ word-inner text _ _ (told .low) (told .none) (c .if-end-text .place .at) (omega arith) (w .if-end-text .taken) (told .stops (w .if-end-text .taken)) ∙ ap (λ l. word ∷ l) (sym rest), ap (λ p. p .first) (w .place-is))
       | else-end-text w ↦
           let rest : pending text (c .if-end-text .place) ≡ [] = ap (pending text) (w .place-is) in
           (first ∙ word-last text _ _ (told .low) (told .none) (omega (arith, told .high, w .if-end-text .left)) ∙ ap (λ l. word ∷ l) (sym rest), ap (λ p. p .first) (w .place-is))

@@ -1,10 +1,11 @@
 use mathlib.Core.Path.{sym, subst}
+use native.Mathlib.Omega.{arith}
 use mir.Syntax.{w64}
 use mir.Val.{SFits}
 use borrow.Author.Needs.{needs}
 use Rattle.std.specs.Of.Vec.{vec-items}
 use Rattle.std.proofs.shelf.Results.{err-from-errBy}
-use Rattle.std.proofs.shelf.Signed.{toZ-ofZ}
+use Rattle.std.proofs.shelf.Signed.{ints, toZ-ofZ}
 use Rattle.words.specs.Numbers.{Number}
 use Rattle.words.proofs.Appends.{refuses-map}
 use Rattle.forms.proofs.Points.{put-point}
@@ -21,5 +22,5 @@ returns c =
     let fx : SFits w64 (c .args .self .x) = search needs in
     let fy : SFits w64 (c .args .self .y) = search needs in
     let told = c .in-Continue-put .ensures tt in
-    put-point (c .put-2 .result) (c .args .self) _ _ (vec-items (c .args .out .now)) (vec-items (c .put .last .out)) (vec-items (c .append-bytes .last .out)) (vec-items (c .put-2 .last .out)) (told .0) (toZ-ofZ w64 _ fx) (toZ-ofZ w64 _ fy)
-    (told .1) (told .2) (c .in-Continue-append-bytes .ensures tt) (c .put-2 .ensures)
+    put-point (c .put-2 .result) (c .args .self) _ _ (vec-items (c .args .out .now)) (vec-items (c .put .last .out)) (vec-items (c .append-bytes .last .out)) (vec-items (c .put-2 .last .out)) (told .0) _
+    (told .1) (told .2) (c .in-Continue-append-bytes .ensures tt) (omega arith) (c .put-2 .ensures) (omega (arith, ints)) (omega (arith, ints))

@@ -13,6 +13,6 @@ returns c =
     let start = c .args .self .now .at in
     let told = c .byte-from-end .ensures in
     elim (c .if-end-self .came) [
-      | then-end-self w ↦ line-inner card start _ (told .low) (told .none) _ (w .self-is) (w .if-end-self .taken) (told .stops (w .if-end-self .taken))
-      | else-end-self w ↦ line-last card start _ (told .low) (told .none) _ (w .self-is) (omega arith) (omega (arith, told .high, w .if-end-self .left))
+      | then-end-self w ↦ line-inner card start _ (told .low) (told .none) (c .if-end-self .self) (omega (arith, w .self-is)) (w .if-end-self .taken) (told .stops (w .if-end-self .taken))
+      | else-end-self w ↦ line-last card start _ (told .low) (told .none) (c .if-end-self .self) (omega (arith, w .self-is)) (omega arith) (omega (arith, told .high, w .if-end-self .left))
     ]
