@@ -1,4 +1,8 @@
 // One call on a desk: a sheet in one of its states, and its lists.
+ghost use mathlib.Core.Path.{_≡_};
+ghost use Rattle.rules.specs.Runs.{free, reply-to, binds, unbinds, Answers};
+ghost use Rattle.sheets.specs.Shown.{numbers};
+ghost use Rattle.desks.specs.Shown.{in-use, use-of, reply-of};
 use crate::call::Answer;
 use crate::call::Call;
 use grips::Grip;
@@ -79,11 +83,49 @@ impl<K: Kind> Lists<K> {
 }
 
 // What a call that gives nothing but its acceptance gave back.
-fn done<K>(r: Result<(), Refusal>) -> Answer<K> {
+fn done<K: Kind>(r: Result<(), Refusal>) -> Answer<K>
+    ensures { λ a. ⌜ reply-of coords a ≡ reply-to r ⌝ }
+{
     match r {
         Ok(()) => Answer::Done,
         Err(refusal) => Answer::Refused(refusal),
     }
+}
+
+// A binding on a sheet without a grip.
+fn bind_step<K: Kind>(
+    lists: &mut Lists<K>,
+    sheet: Sheet,
+    coefficients: &[i64],
+    q: K,
+) -> (State, Answer<K>)
+    ensures after { λ r. ⌜ use-of coords (now (lists .exit)) (r .0) ≡ binds size (in-use coords (now (lists .entry)) (numbers sheet) free) (now (coefficients .entry)) (coords q) .then ⌝ }
+    ensures reply { λ r. ⌜ Answers (binds size (in-use coords (now (lists .entry)) (numbers sheet) free) (now (coefficients .entry)) (coords q) .reply) (reply-of coords (r .1)) ⌝ }
+{
+    let mut sheet = sheet;
+    let r = sheet.bind(
+        &lists.values,
+        &mut lists.relations,
+        &mut lists.constants,
+        coefficients,
+        q,
+    );
+    (State::Free(sheet), done(r))
+}
+
+// An unbinding on a sheet without a grip.
+fn unbind_step<K: Kind>(lists: &mut Lists<K>, sheet: Sheet, number: i64) -> (State, Answer<K>)
+    ensures after { λ r. ⌜ use-of coords (now (lists .exit)) (r .0) ≡ unbinds size (in-use coords (now (lists .entry)) (numbers sheet) free) number .then ⌝ }
+    ensures reply { λ r. ⌜ Answers (unbinds size (in-use coords (now (lists .entry)) (numbers sheet) free) number .reply) (reply-of coords (r .1)) ⌝ }
+{
+    let mut sheet = sheet;
+    let r = sheet.unbind(
+        &lists.values,
+        &mut lists.relations,
+        &mut lists.constants,
+        number,
+    );
+    (State::Free(sheet), done(r))
 }
 
 // A sheet without a grip takes a binding, an unbinding or a grip.
@@ -93,27 +135,9 @@ fn free_step<K: Kind>(
     sheet: Sheet,
     call: &Call<K>,
 ) -> Result<(State, Answer<K>), (State, AllocError)> {
-    let mut sheet = sheet;
     match call {
-        Call::Bind(coefficients, q) => {
-            let r = sheet.bind(
-                &lists.values,
-                &mut lists.relations,
-                &mut lists.constants,
-                coefficients,
-                *q,
-            );
-            Ok((State::Free(sheet), done(r)))
-        }
-        Call::Unbind(number) => {
-            let r = sheet.unbind(
-                &lists.values,
-                &mut lists.relations,
-                &mut lists.constants,
-                *number,
-            );
-            Ok((State::Free(sheet), done(r)))
-        }
+        Call::Bind(coefficients, q) => Ok(bind_step(lists, sheet, coefficients, *q)),
+        Call::Unbind(number) => Ok(unbind_step(lists, sheet, *number)),
         Call::Grip(roles) => grip_step(heap, lists, sheet, roles),
         Call::Pull(_) => Ok((State::Free(sheet), Answer::Refused(Refusal::NotOpen))),
         Call::Keep => Ok((State::Free(sheet), Answer::Refused(Refusal::NotOpen))),

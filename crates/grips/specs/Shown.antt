@@ -1,7 +1,14 @@
 -- The code's grips and what its calls give back, as the rules have them.
 use mathlib.Core.Path.{_≡_}
+use mathlib.Core.Logic.{_↔_}
+use mathlib.Core.Bool.{true}
 use mathlib.Core.List.{List}
-use Prim.Native.Nat.{ℕ}
+use Prim.Native.Nat.{ℕ, _<_}
+use lib.ListN.{getD, take}
+use Rattle.law.specs.Facts.{Combination}
+use Rattle.records.specs.declared.relation.Mark.the-variants.{Spare}
+use Rattle.records.specs.declared.role.Role.{Role}
+use Rattle.rules.specs.Gripping.{counts, counted}
 use Rattle.std.specs.declared.result.Result.{Result}
 use Rattle.std.specs.declared.result.Result.the-variants.{Ok, Err}
 use Rattle.records.specs.declared.refusal.Refusal.{Refusal}
@@ -25,6 +32,14 @@ abbrev pub handing-back : {A : Type 0} → rules.Sheet → Result A Refusal → 
 handing-back s (Ok a) = Ok a
 handing-back s (Err e) = Err (s, e)
 
+-- The earlier relations that count imply relation i for the loose parameters.
+abbrev pub Implied : rules.Sheet → List Relation → List Coords → List Role → ℕ → Type 0
+Implied s rs qs roles i =
+    let n = s .count in
+    let ρ = take n roles in
+    let b = getD (rules.bonds s rs qs) i rules.no-bond in
+    (counts n ρ (b .coefs) ≡ true) × Combination n ρ (counted n ρ (take i (rules.bonds s rs qs))) b
+
 -- What gripping gave back: the gripped sheet and its workings.
 abbrev pub shown-take : Result Gripped (Refused Sheet) → Result (rules.Sheet × rules.Workings) (rules.Sheet × Refusal)
 shown-take (Ok g) = Ok (gripped-sheet (g .grip), shown (g .workings))
@@ -34,6 +49,11 @@ shown-take (Err refused) = Err (numbers (refused .back), refused .refusal)
 abbrev pub Spares-told : Result Gripped (Refused Sheet) → rules.Sheet → List Relation → List Coords → List ℕ → List ℕ → Type 0
 Spares-told (Ok g) s rs qs before after = Listed (spare-numbers (shown (g .workings)) s rs qs) (g .spares) before after
 Spares-told (Err refused) s rs qs before after = after ≡ before
+
+-- After an accepted grip a relation is marked spare exactly when it counts and its loose coefficients are a rational combination of those of earlier relations that count.
+abbrev pub Spares-rightly : Result Gripped (Refused Sheet) → rules.Sheet → List Relation → List Coords → List Role → List Relation → Type 0
+Spares-rightly (Ok g) s rs qs roles after = (i : ℕ) → i < s .bound → (rules.relation-at after i .mark ≡ Spare) ↔ Implied s rs qs roles i
+Spares-rightly (Err refused) s rs qs roles after = Unit {0}
 
 -- What a keep gave back.
 abbrev pub shown-keep : {P : Type 0} → Result Sheet (Refused (Grip P)) → Result rules.Sheet (rules.Sheet × Refusal)

@@ -5,7 +5,7 @@ ghost use Rattle.records.specs.Outcomes.{image};
 ghost use Rattle.rules.specs.Calls.{grip-answer, marks-after};
 ghost use Rattle.sheets.specs.Shown.{numbers};
 ghost use Rattle.workings.specs.Shown.{shown};
-ghost use Rattle.grips.specs.Shown.{handing-back, shown-take, Spares-told};
+ghost use Rattle.grips.specs.Shown.{handing-back, shown-take, Spares-rightly, Spares-told};
 use crate::marks::mark_all;
 use crate::marks::write_spares;
 use crate::token::Grip;
@@ -65,6 +65,7 @@ impl Grip<Unproposed> {
     ) -> Result<Gripped, Refused<Sheet>>
         ensures result { λ r. ⌜ shown-take r ≡ handing-back (numbers sheet) (image (λ w. (numbers sheet, w)) (grip-answer size (numbers sheet) (map coords (now (values .entry))) (now (relations .entry)) (map coords (now (constants .entry))) (now (roles .entry)) (now (spare .entry)))) ⌝ }
         ensures marks { λ r. ⌜ now (relations .exit) ≡ marks-after (grip-answer size (numbers sheet) (map coords (now (values .entry))) (now (relations .entry)) (map coords (now (constants .entry))) (now (roles .entry)) (now (spare .entry))) (numbers sheet) (now (relations .entry)) (map coords (now (constants .entry))) ⌝ }
+        ensures implied { λ r. ⌜ Spares-rightly r (numbers sheet) (now (relations .entry)) (map coords (now (constants .entry))) (now (roles .entry)) (now (relations .exit)) ⌝ }
         ensures spares { λ r. ⌜ Spares-told r (numbers sheet) (now (relations .entry)) (map coords (now (constants .entry))) (now (spare .entry)) (now (spare .exit)) ⌝ }
     {
         let workings = match workings_of(&sheet, values, relations, constants, roles, spare) {

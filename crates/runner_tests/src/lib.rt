@@ -118,4 +118,22 @@ mod tests {
         prints(&rt, b"length a a\nkeep\n", b"no 16\nend\n")?;
         prints(&rt, b"area a\nkeep\n", b"no 16\nend\n")
     }
+
+    #[test]
+    fn twenty_four_loose(rt: LibcRuntime) -> Result<(), Fail> {
+        prints(
+            &rt,
+            b"length a0 a1 a2 a3 a4 a5 a6 a7 a8 a9 b0 b1 b2 b3 b4 b5 b6 b7 b8 b9 c0 c1 c2 c3 c4 c5\ngrip * ~ ~ ~ ~ ~ ~ ~ ~ ~ ~ ~ ~ ~ ~ ~ ~ ~ ~ ~ ~ ~ ~ ~ ~ ~\ngrip * . ~ ~ ~ ~ ~ ~ ~ ~ ~ ~ ~ ~ ~ ~ ~ ~ ~ ~ ~ ~ ~ ~ ~ ~\n",
+            b"no 8\nok\nend\n",
+        )
+    }
+
+    #[test]
+    fn a_collar(rt: LibcRuntime) -> Result<(), Fail> {
+        prints(
+            &rt,
+            b"length left notch right front back\nbind 1 -2 1 0 0 0\nbind 0 0 0 1 -1 0\ngrip . ~ * ~ *\npull 0 8100 16000 3900 4000\nkeep\ngrip 2 ~ * . .\npull 0 8000 16501 0 0\nkeep\ngrip . * * . .\npull 0 8222 16501 0 0\ndrop\n",
+            b"ok\nok\nok\nok 1 0 8000 16000 4000 4000\nok\nok\nok 3 -167 24668 49503 12000 12000\nok\nok 0\nno 13\nok\nend\n",
+        )
+    }
 }

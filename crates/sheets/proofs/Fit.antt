@@ -7,8 +7,6 @@ use native.Mathlib.Omega.{arith}
 use lib.Dec.{ltb}
 use lib.IntN.{ℤ, pos, natAbs}
 use lib.ListN.{length, getD}
-use lib.Signed.{_≤ℤ_, ltZ}
-use borrow.Author.Differences.{ints}
 use lib.Seq.{paste}
 use Rattle.std.proofs.shelf.Lists.{length-map, map-append, take-map, drop-map}
 use Rattle.std.proofs.shelf.Tests.{ltb-false, or-parts}
@@ -17,39 +15,14 @@ use Rattle.whole.specs.Lists.{at, coord}
 use Rattle.whole.specs.Tests.{any, above}
 use Rattle.whole.proofs.Tests.{any-false, above-false}
 use Rattle.rules.specs.Values.{Coords}
-use Rattle.rules.specs.Sheets.{Sheet, relation-at, bad-denominator, bad-values, bad-coefs, bad-constant, bad-relation, unfit-values, unfit-relations, unfit}
-
--- the values of n parameters over d fit
-pub record Fit-values (size n : ℕ) (d : ℤ) (vs : List Coords) : Type 0 where
-  pub long : n ≤ length vs
-  pub low : pos 1 ≤ℤ d
-  pub high : natAbs d ≤ 45000
-  pub small : (s : ℕ) → s < n → (c : ℕ) → c < size → natAbs (coord vs s c) ≤ 47560 * natAbs d
+pub use Rattle.rules.proofs.Fit.{Fit-values, fit-values}
+use Rattle.rules.specs.Sheets.{Sheet, relation-at, bad-coefs, unfit-values, unfit-relations, unfit}
 
 pub record Fit-relations (size : ℕ) (s : Sheet) (rs : List Relation) (qs : List Coords) : Type 0 where
   pub relations-long : 24 ≤ length rs
   pub constants-long : 24 ≤ length qs
   pub coefficients-small : (i : ℕ) → i < s .bound → (p : ℕ) → p < s .count → natAbs (at (relation-at rs i .coefficients) p) ≤ 1000
   pub constants-small : (i : ℕ) → i < s .bound → (c : ℕ) → c < size → natAbs (coord qs i c) ≤ 47560000
-
-denominator : (d : ℤ) → bad-denominator d ≡ false → (pos 1 ≤ℤ d) × (natAbs d ≤ 45000)
-denominator d e =
-    let a = or-parts (ltZ d (pos 1)) _ e in
-    let low = a .0 in
-    let high = a .1 in
-    (omega (arith, ints), omega (arith, ints))
-
-pub fit-values : (size n : ℕ) (d : ℤ) (vs : List Coords) → unfit-values size n d vs ≡ false → Fit-values size n d vs
-fit-values size n d vs e =
-    let a = or-parts (ltb (length vs) n || bad-denominator d) _ e in
-    let b = or-parts (ltb (length vs) n) _ (a .0) in
-    let h = denominator d (b .1) in
-    record {
-      long = ltb-false _ _ (b .0);
-      low = h .0;
-      high = h .1;
-      small = λ s l c k. above-false _ (coord vs s c) (any-false size _ (any-false n _ (a .1) s l) c k);
-    }
 
 pub fit-relations : (size : ℕ) (s : Sheet) (rs : List Relation) (qs : List Coords) → unfit-relations size s rs qs ≡ false → Fit-relations size s rs qs
 fit-relations size s rs qs e =

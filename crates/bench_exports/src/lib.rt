@@ -1,0 +1,4 @@
+// Proved steps of the engine under names that Rust or C can link, for measuring them from outside.
+mod combining;
+mod eliminating;
+mod pulling;
