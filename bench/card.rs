@@ -95,12 +95,6 @@ fn line<V: Written>(count: usize, text: &[u8]) -> Option<Line<V>> {
     if words.next().is_some() { None } else { Some(line) }
 }
 
-enum State {
-    Free,
-    Gripped(Workings),
-    Proposed(Workings, i64),
-}
-
 fn put_values<V: Value>(out: &mut Vec<u8>, values: &[V]) {
     for v in values {
         for k in 0..V::SIZE {
@@ -125,54 +119,46 @@ fn put<T>(out: &mut Vec<u8>, answer: Result<T, u8>) -> Option<T> {
 fn run_lines<V: Written>(count: usize, lines: &mut dyn Iterator<Item = &[u8]>, out: &mut Vec<u8>) {
     let Ok(mut sheet) = Sheet::<V>::open(count) else { return };
     let mut proposal = vec![V::zero(); count];
-    let mut state = State::Free;
+    // the workings while there is a grip, and the denominator while there is a proposal
+    let mut grip: Option<Workings> = None;
+    let mut proposed: Option<i64> = None;
     for text in lines {
-        let call = text.strip_suffix(b"\n").and_then(|text| line::<V>(count, text));
-        state = match (call, state) {
-            (None, state) => {
-                out.extend_from_slice(b"no 16");
-                state
-            }
-            (Some(Line::Bind(coefficients, q)), State::Free) => {
+        match (text.strip_suffix(b"\n").and_then(|text| line::<V>(count, text)), &grip, proposed) {
+            (None, ..) => out.extend_from_slice(b"no 16"),
+            (Some(Line::Bind(coefficients, q)), None, _) => {
                 put(out, sheet.bind(&coefficients, q));
-                State::Free
             }
-            (Some(Line::Unbind(number)), State::Free) => {
+            (Some(Line::Unbind(number)), None, _) => {
                 put(out, sheet.unbind(number));
-                State::Free
             }
-            (Some(Line::Grip(roles)), State::Free) => match put(out, sheet.grip(&roles)) {
-                Some(workings) => {
+            (Some(Line::Grip(roles)), None, _) => {
+                if let Some(workings) = put(out, sheet.grip(&roles)) {
                     for number in &workings.spares {
                         let _ = write!(out, " {number}");
                     }
-                    State::Gripped(workings)
-                }
-                None => State::Free,
-            },
-            (Some(Line::Pull(wishes)), State::Gripped(workings) | State::Proposed(workings, _)) => {
-                match put(out, sheet.pull(&workings, &wishes, &mut proposal)) {
-                    Some(d) => {
-                        let _ = write!(out, " {d}");
-                        put_values(out, &proposal);
-                        State::Proposed(workings, d)
-                    }
-                    None => State::Gripped(workings),
+                    grip = Some(workings);
                 }
             }
-            (Some(Line::Keep), State::Proposed(workings, d)) => match put(out, sheet.keep(&proposal, d)) {
-                Some(()) => State::Free,
-                None => State::Proposed(workings, d),
-            },
-            (Some(Line::Drop), State::Gripped(_) | State::Proposed(..)) => {
+            (Some(Line::Pull(wishes)), Some(workings), _) => {
+                proposed = put(out, sheet.pull(workings, &wishes, &mut proposal));
+                if let Some(d) = proposed {
+                    let _ = write!(out, " {d}");
+                    put_values(out, &proposal);
+                }
+            }
+            (Some(Line::Keep), Some(_), Some(d)) => {
+                if put(out, sheet.keep(&proposal, d)).is_some() {
+                    grip = None;
+                    proposed = None;
+                }
+            }
+            (Some(Line::Drop), Some(_), _) => {
                 out.extend_from_slice(b"ok");
-                State::Free
+                grip = None;
+                proposed = None;
             }
-            (Some(_), state) => {
-                out.extend_from_slice(b"no 19");
-                state
-            }
-        };
+            _ => out.extend_from_slice(b"no 19"),
+        }
         out.push(b'\n');
     }
 }

@@ -199,3 +199,11 @@ pub fn eliminate(n: usize, m: usize, shares: &[i64; 48], rows: &Rows) -> Result<
     }
     Ok(table)
 }
+
+/// The last number of the finished table, or 0 less the number of the refusal.
+pub fn last_number(n: usize, m: usize, shares: &[i64; 48], rows: &Rows) -> i64 {
+    match eliminate(n, m, shares, rows) {
+        Ok(table) => table.rows[m - 1][2 * m - 1],
+        Err(number) => -(number as i64),
+    }
+}

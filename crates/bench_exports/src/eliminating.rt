@@ -27,3 +27,17 @@ pub extern "C" fn valetwren_eliminate(n: usize, m: usize, given: &Given, out: &m
         Err(refusal) => refusal.number(),
     }
 }
+
+// The last number of the finished table, or 0 less the number of the refusal: the elimination without a copy of its table.
+#[unsafe(no_mangle)]
+pub extern "C" fn valetwren_last_number(n: usize, m: usize, given: &Given) -> i64 {
+    match Table::finished(n, m, &given.shares, &given.rows) {
+        Ok(table) => {
+            if m == 0 || m > 12 {
+                return 0;
+            }
+            table.rows[m - 1].cells[m + m - 1]
+        }
+        Err(refusal) => 0 - refusal.number() as i64,
+    }
+}

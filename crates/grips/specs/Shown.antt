@@ -20,7 +20,10 @@ use Rattle.rules.specs.Values.{Coords}
 use Rattle.rules.specs.Calls.{Listed, spare-numbers}
 use Rattle.workings.specs.Shown.{shown}
 use Rattle.grips.specs.declared.taking.Gripped.{Gripped}
+use lib.IntN.{ℤ}
 use Rattle.grips.specs.declared.token.Grip.{Grip}
+use Rattle.grips.specs.declared.token.Proposed.{Proposed}
+use Rattle.grips.specs.declared.token.Unproposed.{Unproposed}
 use Rattle.grips.specs.declared.token.Refused.{Refused}
 
 -- The sheet that is gripped.
@@ -54,6 +57,11 @@ Spares-told (Err refused) s rs qs before after = after ≡ before
 abbrev pub Spares-rightly : Result Gripped (Refused Sheet) → rules.Sheet → List Relation → List Coords → List Role → List Relation → Type 0
 Spares-rightly (Ok g) s rs qs roles after = (i : ℕ) → i < s .bound → (rules.relation-at after i .mark ≡ Spare) ↔ Implied s rs qs roles i
 Spares-rightly (Err refused) s rs qs roles after = Unit {0}
+
+-- What a pull gave back: the gripped sheet and the proposal's denominator.
+abbrev pub shown-pull : Result (Grip Proposed × ℤ) (Refused (Grip Unproposed)) → Result (rules.Sheet × ℤ) (rules.Sheet × Refusal)
+shown-pull (Ok pulled) = Ok (gripped-sheet (pulled .0), pulled .1)
+shown-pull (Err refused) = Err (gripped-sheet (refused .back), refused .refusal)
 
 -- What a keep gave back.
 abbrev pub shown-keep : {P : Type 0} → Result Sheet (Refused (Grip P)) → Result rules.Sheet (rules.Sheet × Refusal)

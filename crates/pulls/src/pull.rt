@@ -1,132 +1,36 @@
 // A pull's steps in their order.
 ghost use mathlib.Core.Path.{_≡_};
-ghost use mathlib.Core.Bool.{false};
-ghost use Prim.Native.Nat.{_≤_};
+ghost use mathlib.Core.Bool.{false, not, _||_};
+ghost use lib.Dec.{ltb, eqb};
+ghost use mathlib.Core.List.{map};
+ghost use Prim.Native.Nat.{ℕ, _≤_};
 ghost use lib.IntN.{natAbs};
 ghost use lib.ListN.{length};
-ghost use Rattle.std.specs.Vec.{made};
+ghost use Rattle.whole.specs.Lists.{at};
+ghost use Rattle.rules.specs.Calls.{pulling};
+ghost use Rattle.rules.specs.Sheets.{unfit, unfit-values};
+ghost use Rattle.rules.specs.Pulling.{proposed};
 ghost use Rattle.sheets.specs.Shown.{numbers};
+ghost use Rattle.workings.specs.Shown.{shown};
+ghost use Rattle.pulls.specs.Rows.{chosen, Fine};
+ghost use Rattle.pulls.specs.Steps.{placed, exactly};
+use crate::finish::finish;
 use crate::lists::clear;
-use crate::multipliers::lower;
-use crate::multipliers::multiple_of;
-use crate::multipliers::multiply;
-use crate::numerators::divide_all;
-use crate::numerators::divisor_over;
-use crate::numerators::write_numerators;
-use crate::residuals::carried;
 use crate::residuals::far_wish;
-use crate::residuals::residual;
+use crate::rows::write_carried;
+use crate::rows::write_residuals;
 use kinds::Kind;
-use kinds::value_above;
 use records::Refusal;
 use records::Relation;
 use records::Role;
-use roles::Counted;
 use roles::counted_relations;
 use sheets::Sheet;
 use sheets::unfit;
-use sheets::unfit_values;
 use workings::Workings;
 
 const WORKING_PLACES: usize = 24;
 
 const MOST_ROWS: usize = 12;
-
-const MOST_RESIDUAL: u64 = 300_000_000;
-
-const MOST_DENOMINATOR: u64 = 45_000;
-
-// Writes the residuals of the relations that count.
-fn write_residuals<K: Kind>(
-    d: i64,
-    values: &[K],
-    relations: &[Relation],
-    constants: &[K],
-    rows: &[usize],
-    roles: &[Role],
-    wishes: &[K],
-    residuals: &mut [K],
-) -> Result<(), Refusal>
-    requires { ⌜ length (now roles) ≤ 48 ⌝ ∗ ⌜ length (now roles) ≤ length (now values) ⌝ ∗ ⌜ length (now roles) ≤ length (now wishes) ⌝ ∗ ⌜ length (now rows) ≤ length (now residuals) ⌝ }
-{
-    for i in 0..rows.len() {
-        let j = rows[i];
-        if j < relations.len() && j < constants.len() {
-            let c = residual(d, constants[j], &relations[j], roles, wishes, values);
-            if value_above(c, MOST_RESIDUAL) {
-                return Err(Refusal::GapTooLarge);
-            }
-            residuals[i] = c;
-        }
-    }
-    Ok(())
-}
-
-// Writes what the rows carry; a spare row that carries something other than zero has no placing.
-fn write_carried<K: Kind>(
-    workings: &Workings,
-    m: usize,
-    residuals: &[K],
-    sums: &mut [K],
-) -> Result<(), Refusal>
-    requires { ⌜ m ≤ length (now sums) ⌝ ∗ ⌜ 12 ≤ length (now residuals) ⌝ }
-{
-    for i in 0..m {
-        let g = carried(workings.right_half(i), residuals);
-        if workings.diagonal(i) == 0 && value_above(g, 0) {
-            return Err(Refusal::Impossible);
-        }
-        sums[i] = g;
-    }
-    Ok(())
-}
-
-// The multipliers of the needed rows, written over what they carry, and the common multiple that they are over.
-fn solve_rows<K: Kind>(
-    workings: &Workings,
-    m: usize,
-    sums: &mut [K],
-    diagonal: &mut [u64],
-) -> Result<u64, Refusal>
-    requires { ⌜ m ≤ length (now sums) ⌝ ∗ ⌜ m ≤ length (now diagonal) ⌝ }
-    ensures { λ r. ⌜ made r (λ l. l ≤ 2147483647) ⌝ }
-{
-    for i in 0..m {
-        diagonal[i] = workings.diagonal(i);
-    }
-    lower(&mut diagonal[0..m], sums);
-    let l = multiple_of(&diagonal[0..m])?;
-    multiply(l, &diagonal[0..m], sums)?;
-    Ok(l)
-}
-
-// The proposal in lowest terms, from its numerators over e.
-fn settle<K: Kind>(e: u64, n: usize, proposal: &mut [K]) -> Result<i64, Refusal>
-    requires { ⌜ n ≤ length (now proposal) ⌝ }
-{
-    let g = divisor_over(e, n, proposal);
-    if g == 0 || g > e {
-        return Err(Refusal::TooFine);
-    }
-    let d = e / g;
-    if d > MOST_DENOMINATOR {
-        return Err(Refusal::TooFine);
-    }
-    if g <= 9_223_372_036_854_775_807 {
-        divide_all(g as i64, n, proposal);
-    }
-    if unfit_values(n, d as i64, proposal) {
-        return Err(Refusal::OffSheet);
-    }
-    Ok(d as i64)
-}
-
-// ℓ × d.
-fn scaled(l: u64, d: i64) -> i64
-    requires { ⌜ l ≤ 2147483647 ⌝ ∗ ⌜ natAbs d ≤ 45000 ⌝ }
-{
-    l as i64 * d
-}
 
 // A pull whose lists and workings fit: the denominator of the proposal, whose numerators are then in its list.
 fn solve<K: Kind>(
@@ -134,63 +38,138 @@ fn solve<K: Kind>(
     values: &[K],
     relations: &[Relation],
     constants: &[K],
-    counted: &Counted,
+    rows: &[usize],
+    roles: &[Role],
+    shares: &[i64],
+    workings: &Workings,
+    wishes: &[K],
+    lowered: &mut [u64],
+    found: &mut [K],
+    sums: &mut [K],
+    proposal: &mut [K],
+) -> Result<i64, Refusal>
+    requires parameters { ⌜ length (now roles) ≤ 48 ⌝ }
+    requires wished { ⌜ length (now roles) ≤ length (now wishes) ⌝ }
+    requires room { ⌜ length (now roles) ≤ length (now values) ⌝ }
+    requires shared { ⌜ length (now shares) ≡ length (now roles) ⌝ }
+    requires proposed { ⌜ length (now proposal) ≡ length (now roles) ⌝ }
+    requires share { ⌜ ((s : ℕ) → natAbs (at (now shares) s) ≤ 12) ⌝ }
+    requires values { ⌜ unfit-values size (length (now roles)) d (map coords (now values)) ≡ false ⌝ }
+    requires fine { ⌜ Fine size (length (now roles)) (now relations) (map coords (now constants)) (now rows) ⌝ }
+    requires few { ⌜ length (now rows) ≤ 12 ⌝ }
+    requires rows { ⌜ length (now rows) ≡ shown (now workings) .m ⌝ }
+    requires lowered { ⌜ length (now lowered) ≡ length (now rows) ⌝ }
+    requires found { ⌜ length (now found) ≡ length (now rows) ⌝ }
+    requires sums { ⌜ length (now sums) ≡ length (now rows) ⌝ }
+    ensures { λ r. ⌜ placed r (map coords (now (proposal .exit))) ≡ proposed size (length (now (roles .entry))) (now (roles .entry)) (now (shares .entry)) (chosen (length (now (roles .entry))) (now (relations .entry)) (map coords (now (constants .entry))) (now (rows .entry))) (shown (now (workings .entry)) .table) d (map coords (now (values .entry))) (map coords (now (wishes .entry))) ⌝ }
+{
+    if far_wish(roles, wishes) {
+        return Err(Refusal::WishTooFar);
+    }
+    write_residuals(d, values, relations, constants, rows, roles, wishes, found)?;
+    write_carried(workings, found, lowered, sums)?;
+    finish(
+        d,
+        values,
+        relations,
+        rows,
+        roles,
+        shares,
+        wishes,
+        lowered,
+        sums,
+        proposal,
+    )
+}
+
+// The same over the lists that the workings are for: the working values hold the residuals in their first 12 places, and what
+// the rows carry in the next 12.
+fn solve_in<K: Kind>(
+    d: i64,
+    values: &[K],
+    relations: &[Relation],
+    constants: &[K],
+    rows: &[usize],
     workings: &Workings,
     wishes: &[K],
     proposal: &mut [K],
     working: &mut [K],
 ) -> Result<i64, Refusal>
-    requires { ⌜ 24 ≤ length (now working) ⌝ }
+    requires parameters { ⌜ shown (now workings) .count ≤ 48 ⌝ }
+    requires wished { ⌜ shown (now workings) .count ≤ length (now wishes) ⌝ }
+    requires room { ⌜ shown (now workings) .count ≤ length (now values) ⌝ }
+    requires proposed { ⌜ length (now proposal) ≡ shown (now workings) .count ⌝ }
+    requires values { ⌜ unfit-values size (shown (now workings) .count) d (map coords (now values)) ≡ false ⌝ }
+    requires fine { ⌜ Fine size (shown (now workings) .count) (now relations) (map coords (now constants)) (now rows) ⌝ }
+    requires rows { ⌜ length (now rows) ≡ shown (now workings) .m ⌝ }
+    requires working { ⌜ length (now working) ≡ 24 ⌝ }
+    ensures { λ r. ⌜ placed r (map coords (now (proposal .exit))) ≡ proposed size (shown (now (workings .entry)) .count) (shown (now (workings .entry)) .roles) (shown (now (workings .entry)) .shares) (chosen (shown (now (workings .entry)) .count) (now (relations .entry)) (map coords (now (constants .entry))) (now (rows .entry))) (shown (now (workings .entry)) .table) d (map coords (now (values .entry))) (map coords (now (wishes .entry))) ⌝ }
 {
-    let roles = workings.roles();
-    let n = roles.len();
-    let m = counted.m;
-    if m > MOST_ROWS
-        || n > 48
-        || wishes.len() < n
-        || values.len() < n
-        || proposal.len() < n
-        || d < 1
-        || d > 45_000
-    {
-        return Err(Refusal::Unfit);
-    }
-    if far_wish(roles, wishes) {
-        return Err(Refusal::WishTooFar);
-    }
-    let (residuals, sums) = working.split_at_mut(MOST_ROWS);
-    write_residuals(
+    let m = workings.m();
+    let mut lowered = [0; MOST_ROWS];
+    let (left, right) = working.split_at_mut(MOST_ROWS);
+    solve(
         d,
         values,
         relations,
         constants,
-        &counted.rows[0..m],
-        roles,
-        wishes,
-        residuals,
-    )?;
-    write_carried(workings, m, residuals, sums)?;
-    let mut diagonal = [0; MOST_ROWS];
-    let l = solve_rows(workings, m, sums, &mut diagonal)?;
-    let e = scaled(l, d);
-    write_numerators(
-        l as i64,
-        e,
-        roles,
+        rows,
+        workings.roles(),
         workings.shares(),
-        values,
+        workings,
         wishes,
-        relations,
-        &counted.rows[0..m],
-        &diagonal[0..m],
-        sums,
+        &mut lowered[0..m],
+        &mut left[0..m],
+        &mut right[0..m],
         proposal,
+    )
+}
+
+// A pull over lists of exactly the places that it writes.
+fn pull<K: Kind>(
+    d: i64,
+    values: &[K],
+    relations: &[Relation],
+    constants: &[K],
+    rows: &[usize],
+    workings: &Workings,
+    wishes: &[K],
+    proposal: &mut [K],
+    working: &mut [K],
+) -> Result<i64, Refusal>
+    requires parameters { ⌜ shown (now workings) .count ≤ 48 ⌝ }
+    requires wished { ⌜ shown (now workings) .count ≤ length (now wishes) ⌝ }
+    requires room { ⌜ shown (now workings) .count ≤ length (now values) ⌝ }
+    requires proposed { ⌜ length (now proposal) ≡ shown (now workings) .count ⌝ }
+    requires values { ⌜ unfit-values size (shown (now workings) .count) d (map coords (now values)) ≡ false ⌝ }
+    requires fine { ⌜ Fine size (shown (now workings) .count) (now relations) (map coords (now constants)) (now rows) ⌝ }
+    requires rows { ⌜ length (now rows) ≡ shown (now workings) .m ⌝ }
+    requires working { ⌜ length (now working) ≡ 24 ⌝ }
+    ensures { λ r. ⌜ (r, map coords (now (proposal .exit)), map coords (now (working .exit))) ≡ exactly size (shown (now (workings .entry)) .count) (proposed size (shown (now (workings .entry)) .count) (shown (now (workings .entry)) .roles) (shown (now (workings .entry)) .shares) (chosen (shown (now (workings .entry)) .count) (now (relations .entry)) (map coords (now (constants .entry))) (now (rows .entry))) (shown (now (workings .entry)) .table) d (map coords (now (values .entry))) (map coords (now (wishes .entry)))) ⌝ }
+{
+    let answer = solve_in(
+        d,
+        values,
+        relations,
+        constants,
+        rows,
+        workings,
+        wishes,
+        proposal,
+        working,
     );
-    settle(e.unsigned_abs(), n, proposal)
+    clear(working);
+    match answer {
+        Ok(over) => Ok(over),
+        Err(refusal) => {
+            clear(proposal);
+            Err(refusal)
+        }
+    }
 }
 
 // Whether a list is short, a number breaks a limit, or the workings are for another count of parameters.
-fn unfit_pull<K: Kind>(
+fn unfit_lists<K: Kind>(
     sheet: &Sheet,
     values: &[K],
     relations: &[Relation],
@@ -200,17 +179,14 @@ fn unfit_pull<K: Kind>(
     proposal: &[K],
     working: &[K],
 ) -> bool
-    ensures room { λ r. ⌜ (r ≡ false → 24 ≤ length (now (working .entry))) ⌝ }
-    ensures long { λ r. ⌜ (r ≡ false → numbers (now (sheet .entry)) .count ≤ length (now (proposal .entry))) ⌝ }
+    ensures { λ r. ⌜ r ≡ (ltb (length (now (wishes .entry))) (numbers (now (sheet .entry)) .count) || ltb (length (now (proposal .entry))) (numbers (now (sheet .entry)) .count) || ltb (length (now (working .entry))) 24 || unfit size (numbers (now (sheet .entry))) (map coords (now (values .entry))) (now (relations .entry)) (map coords (now (constants .entry))) || not (eqb (shown (now (workings .entry)) .count) (numbers (now (sheet .entry)) .count))) ⌝ }
 {
     let n = sheet.count();
-    if wishes.len() < n || proposal.len() < n || working.len() < WORKING_PLACES {
-        return true;
-    }
-    if unfit(sheet, values, relations, constants) {
-        return true;
-    }
-    workings.count() != n
+    wishes.len() < n
+        || proposal.len() < n
+        || working.len() < WORKING_PLACES
+        || unfit(sheet, values, relations, constants)
+        || workings.count() != n
 }
 
 // The denominator of the proposal, or the refusal; the proposal, and zeros in the working values, are then in their lists.
@@ -223,8 +199,10 @@ pub fn propose<K: Kind>(
     wishes: &[K],
     proposal: &mut [K],
     working: &mut [K],
-) -> Result<i64, Refusal> {
-    if unfit_pull(
+) -> Result<i64, Refusal>
+    ensures { λ r. ⌜ (r, map coords (now (proposal .exit)), map coords (now (working .exit))) ≡ pulling size (numbers (now (sheet .entry))) (map coords (now (values .entry))) (now (relations .entry)) (map coords (now (constants .entry))) (shown (now (workings .entry))) (map coords (now (wishes .entry))) (map coords (now (proposal .entry))) (map coords (now (working .entry))) ⌝ }
+{
+    if unfit_lists(
         sheet,
         values,
         relations,
@@ -236,32 +214,21 @@ pub fn propose<K: Kind>(
     ) {
         return Err(Refusal::Unfit);
     }
-    let n = sheet.count();
-    let bound = sheet.bound();
-    if relations.len() < bound {
+    let n = workings.count();
+    let m = workings.m();
+    let counted = counted_relations(&relations[0..sheet.bound()], workings.roles());
+    if counted.m != m {
         return Err(Refusal::Unfit);
     }
-    let counted = counted_relations(&relations[0..bound], workings.roles());
-    if workings.m() != counted.m {
-        return Err(Refusal::Unfit);
-    }
-    let answer = solve(
+    pull(
         sheet.denominator,
         values,
         relations,
         constants,
-        &counted,
+        &counted.rows[0..m],
         workings,
         wishes,
-        proposal,
-        working,
-    );
-    clear(WORKING_PLACES, working);
-    match answer {
-        Ok(d) => Ok(d),
-        Err(refusal) => {
-            clear(n, proposal);
-            Err(refusal)
-        }
-    }
+        &mut proposal[0..n],
+        &mut working[0..WORKING_PLACES],
+    )
 }
