@@ -47,11 +47,18 @@ impl Grip<Proposed> {
         constants: &[K],
         proposal: &[K],
         denominator: i64,
-    ) -> Result<Sheet, Refused<Grip<Proposed>>> {
+    ) -> Result<Sheet, Refused<Grip<Proposed>>>
+        ensures result { λ r. ⌜ shown-keep r ≡ handing-back (gripped-sheet self) (keeping size (gripped-sheet self) (map coords (now (values .entry))) (now (relations .entry)) (map coords (now (constants .entry))) (map coords (now (proposal .entry))) denominator .0) ⌝ }
+        ensures values { λ r. ⌜ map coords (now (values .exit)) ≡ keeping size (gripped-sheet self) (map coords (now (values .entry))) (now (relations .entry)) (map coords (now (constants .entry))) (map coords (now (proposal .entry))) denominator .1 ⌝ }
+    {
         let n = self.sheet.count();
-        if unfit(&self.sheet, values, relations, constants)
-            || unfit_values(n, denominator, proposal)
-        {
+        if unfit(&self.sheet, values, relations, constants) {
+            return Err(Refused {
+                back: self,
+                refusal: Refusal::Unfit,
+            });
+        }
+        if unfit_values(n, denominator, proposal) {
             return Err(Refused {
                 back: self,
                 refusal: Refusal::Unfit,
