@@ -1,21 +1,16 @@
--- A desk's lists and state as a sheet in use, and the code's calls and answers as the rules have them.
-use mathlib.Core.Path.{_≡_}
+-- A desk's lists and state as a sheet in use, and the code's answers as the rules have them.
 use mathlib.Core.List.{List, map}
 use Prim.Native.Nat.{ℕ}
 use lib.IntN.{ℤ}
 use lib.ListN.{length}
 use Rattle.std.specs.Of.Vec.{vec-items}
-use Rattle.std.specs.declared.result.Result.{Result}
 use Rattle.std.specs.declared.result.Result.the-variants.{Ok, Err}
-use Rattle.std.specs.declared.alloc.AllocError.{AllocError}
 use Rattle.rules.specs.Sheets as rules
 use Rattle.rules.specs.Runs as runs
 use Rattle.rules.specs.Values.{Coords}
 use Rattle.sheets.specs.Shown.{numbers}
 use Rattle.workings.specs.Shown.{shown}
 use Rattle.grips.specs.Shown.{gripped-sheet}
-use Rattle.desks.specs.declared.call.Call.{Call}
-use Rattle.desks.specs.declared.call.Call.the-variants as c
 use Rattle.desks.specs.declared.call.Answer.{Answer}
 use Rattle.desks.specs.declared.call.Answer.the-variants as a
 use Rattle.desks.specs.declared.desk.Lists.{Lists}
@@ -40,26 +35,8 @@ use-of f l (s.Free sheet) = in-use f l (numbers sheet) runs.free
 use-of f l (s.Gripped g w) = in-use f l (gripped-sheet g) (runs.gripped (shown w))
 use-of f l (s.Proposed g w d) = in-use f l (gripped-sheet g) (runs.proposing (shown w) d)
 
-abbrev pub call-of : {K : Type 0} → (K → Coords) → Call K → runs.Call
-call-of f (c.Bind cs q) = runs.bind (vec-items cs) (f q)
-call-of f (c.Unbind i) = runs.unbind i
-call-of f (c.Grip roles) = runs.grip (vec-items roles)
-call-of f (c.Pull wishes) = runs.pull (map f (vec-items wishes))
-call-of f c.Keep = runs.keep
-call-of f c.Drop = runs.drop-grip
-
 abbrev pub reply-of : {K : Type 0} → (K → Coords) → Answer K → runs.Reply
 reply-of f a.Done = Ok runs.nothing
 reply-of f (a.Spares numbers) = Ok (runs.spares (vec-items numbers))
 reply-of f (a.Placing d numerators) = Ok (runs.placing (record { over = d; nums = map f (vec-items numerators) }))
 reply-of f (a.Refused e) = Err e
-
--- The call came to what the rules say, but for the order of spare numbers.
-pub record Came {K : Type 0} (f : K → Coords) (size : ℕ) (before : runs.Use) (call : Call K) (after : runs.Use) (answer : Answer K) : Type 0 where
-  pub then : after ≡ runs.step size before (call-of f call) .then
-  pub reply : runs.Answers (runs.step size before (call-of f call) .reply) (reply-of f answer)
-
--- So it did, unless memory failed; then nothing is said of the answer.
-abbrev pub Stepped : {K : Type 0} → (K → Coords) → ℕ → runs.Use → Call K → Lists K → Result (State × Answer K) (State × AllocError) → Type 0
-Stepped f size before call after (Ok (state, answer)) = Came f size before call (use-of f after state) answer
-Stepped f size before call after (Err e) = Unit {0}
