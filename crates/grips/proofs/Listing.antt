@@ -66,9 +66,6 @@ module _ (n : ℕ) (roles : List Role) where
   spares-few bs t zero = omega arith
   spares-few bs t (suc k) = by (counts n roles (getD bs k no-bond .coefs)) (is-needed t (row-of n roles bs k)) (spares-few bs t k)
     where
-      spares-on : Bool → Bool → List ℕ
-      spares-on c a = cond (is-spare (cond c (cond a Needed Spare) Idle)) (k ∷ []) []
-
       by : (c a : Bool) → length (spares n roles bs t k) ≤ row-of n roles bs k → length (spares n roles bs t k ++ cond (is-spare (cond c (cond a Needed Spare) Idle)) (k ∷ []) []) ≤ elim c as (λ z. ℕ) [ true ↦ suc (row-of n roles bs k) | false ↦ row-of n roles bs k ]
       by true true ih = let l = length-append (spares n roles bs t k) [] in omega (arith, l)
       by true false ih = let l = length-append (spares n roles bs t k) (k ∷ []) in omega (arith, l)

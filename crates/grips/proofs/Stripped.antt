@@ -35,10 +35,6 @@ module _ (n : ℕ) (roles : List Role) where
   pub marked-strip : (bs : List Bond) (t : Grid) (rs : List Relation) → marked n roles (map strip bs) t rs ≡ marked n roles bs t rs
   marked-strip bs t rs = λ d. written (length-map bs strip d) (tab (length-map bs strip d) (λ i. with-mark (relation-at rs i) (mark-strip bs t i d))) rs
 
-  pub spares-strip : (bs : List Bond) (t : Grid) (k : ℕ) → spares n roles (map strip bs) t k ≡ spares n roles bs t k
-  spares-strip bs t zero = refl
-  spares-strip bs t (suc k) = λ d. spares-strip bs t k d ++ cond (is-spare (mark-strip bs t k d)) (k ∷ []) []
-
 take-tab : {X : Type 0} (xs : List X) (z : X) (k : ℕ) → k ≤ length xs → take k xs ≡ tab k (λ i. getD xs i z)
 take-tab {X = X} xs z k h =
     sym (tab-of (take k xs) z) ∙ ap (λ (m : ℕ). tab m (λ i. getD (take k xs) i z)) (length-take-le k xs h) ∙ tab-ext k (λ i. getD (take k xs) i z) (λ i. getD xs i z) (λ i l. getD-take k xs i z l)
