@@ -1,4 +1,6 @@
 // Calls on a sheet, and what they give back, as values.
+#![tactic(auto)]
+
 mod answer;
 mod call;
 

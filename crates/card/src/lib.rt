@@ -1,4 +1,6 @@
 // Lines of a card, written from their calls and values, and the two ways back.
+#![tactic(auto)]
+
 mod put;
 mod trip;
 mod write;

@@ -1,4 +1,6 @@
 // Lines at the limits of the format, and lines just beyond them.
+#![tactic(auto)]
+
 #[cfg(test)]
 mod headings;
 #[cfg(test)]

@@ -1,4 +1,6 @@
 // The cells of a grip, and the names of the calls.
+#![tactic(auto)]
+
 mod cell;
 mod verb;
 

@@ -1,4 +1,6 @@
 // A sheet together with the lists that its calls are lent, and series of calls on it.
+#![tactic(auto)]
+
 mod call;
 mod desk;
 mod series;

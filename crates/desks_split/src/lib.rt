@@ -1,4 +1,6 @@
 // A desk: a sheet in one of its states, together with the lists that its calls are lent.
+#![tactic(auto)]
+
 mod calling;
 mod closing;
 mod desk;

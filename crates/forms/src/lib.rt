@@ -1,4 +1,6 @@
 // Values that one word writes: numbers, and the values of the kinds.
+#![tactic(auto)]
+
 mod append;
 mod length;
 mod number;

@@ -1,4 +1,6 @@
 // The grip on a sheet: the calls that make it, pull with it and end it.
+#![tactic(auto)]
+
 mod ending;
 mod marks;
 mod pulling;

@@ -1,4 +1,6 @@
 // The first line of a card: the kind of value, and the names of the parameters.
+#![tactic(auto)]
+
 mod kind;
 mod name;
 mod read;

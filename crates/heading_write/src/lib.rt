@@ -1,4 +1,6 @@
 // The first line of a card, written from its kind and its names, and the two ways back.
+#![tactic(auto)]
+
 mod trip;
 mod write;
 

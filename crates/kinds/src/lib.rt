@@ -1,4 +1,6 @@
 // Kinds of value: a list of whole-number coordinates with an inner product.
+#![tactic(auto)]
+
 mod kind;
 mod length;
 mod limits;

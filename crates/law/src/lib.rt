@@ -1,4 +1,6 @@
 // The law for runs of calls on a sheet. Each function states what is proved.
+#![tactic(auto)]
+
 ghost use Rattle.law.specs.Law.{LawForRuns};
 ghost use Rattle.law.specs.Facts.{AcceptedGrip, Diagonal, Pivots, PullsRightly, SpareExactly};
 ghost use Rattle.law.specs.Plenty.{FitsAlways, SeriesMade, SmallMade};

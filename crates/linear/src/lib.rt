@@ -1,4 +1,6 @@
 // The linear theory: each function states one theorem.
+#![tactic(auto)]
+
 ghost use Rattle.linear.specs.Theorems.{Accepted, Diagonal, Finished, Infeasible, Lowest, Nearest, Pivots, PivotsLast, Room, Spares};
 
 // The pivot of a step is never negative, and where it is 0, its row is 0 in its left half.

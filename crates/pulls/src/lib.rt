@@ -1,4 +1,6 @@
 // The arithmetic of a pull: from wishes to a proposal, over any kind of value.
+#![tactic(auto)]
+
 mod finish;
 mod lists;
 mod multipliers;

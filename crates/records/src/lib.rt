@@ -1,4 +1,6 @@
 // The plain records of a sheet, which definitions and code share.
+#![tactic(auto)]
+
 mod refusal;
 mod relation;
 mod role;

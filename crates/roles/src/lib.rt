@@ -1,4 +1,6 @@
 // The tests of a grip's roles, and which relations count by them.
+#![tactic(auto)]
+
 ghost use Rattle.std.specs.Prelude.{◌≡◌, min, not, ◌&&◌, length, replicate};
 ghost use Rattle.rules.specs.Values.{written};
 ghost use Rattle.roles.specs.Places.{places};

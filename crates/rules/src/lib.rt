@@ -1,4 +1,6 @@
 // The rules of the sheet: definitions that the contracts of all calls cite. Each function states what is proved of them.
+#![tactic(auto)]
+
 ghost use Rattle.rules.specs.Bounds.{CarriedWithin, DenominatorWithin, Fitting, GramWithin, HoldingWithin, MultipleWithin, MultiplierWithin, NumeratorWithin, ResidualWithin, RoomForAll, SharesWithin};
 ghost use Rattle.rules.specs.Mistakes.{Denominator, Limit, Rounded};
 ghost use Rattle.rules.specs.Worked.{PlacesBeyond, RefusedFirst, WorkedSheets};

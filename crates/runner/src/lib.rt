@@ -1,4 +1,6 @@
 // A card from its bytes to the bytes of its answers.
+#![tactic(auto)]
+
 mod answers;
 mod calls;
 mod runs;

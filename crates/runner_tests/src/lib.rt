@@ -1,4 +1,6 @@
 // Cards with the answers that they must print.
+#![tactic(auto)]
+
 #[cfg(test)]
 mod tests {
     use runner::run_card;

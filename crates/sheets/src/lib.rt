@@ -1,4 +1,6 @@
 // A sheet without a grip: opening it, binding relations and unbinding them.
+#![tactic(auto)]
+
 mod record;
 
 pub use record::Sheet;

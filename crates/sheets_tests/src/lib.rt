@@ -1,4 +1,6 @@
 // Calls on a sheet at the edges of their limits.
+#![tactic(auto)]
+
 #[cfg(test)]
 mod tests {
     use kinds::Length;

@@ -1,4 +1,6 @@
 // One call on a sheet in its state, with the lists that the call is lent.
+#![tactic(auto)]
+
 mod free;
 mod gripped;
 mod lists;

@@ -1,4 +1,6 @@
 // The table of a grip's relations, and its elimination.
+#![tactic(auto)]
+
 mod elimination;
 mod finished;
 mod limits;

@@ -1,4 +1,6 @@
 // Runs the card on standard input and prints its answers.
+#![tactic(auto)]
+
 use anyhow::anyhow;
 use runner::run_card;
 use std::io::{Read, Write};

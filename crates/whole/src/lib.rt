@@ -1,4 +1,6 @@
 // Whole numbers: common divisors and multiples, and the laws that proofs above cite.
+#![tactic(auto)]
+
 mod euclid;
 mod laws;
 

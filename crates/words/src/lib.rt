@@ -1,4 +1,6 @@
 // A card's lines, the words of a line, and whole numbers as a card writes them.
+#![tactic(auto)]
+
 mod fault;
 mod lines;
 mod number;

@@ -1,4 +1,6 @@
 // Runs the worked sheets as cards, and says of each whether its answers are what they should be.
+#![tactic(auto)]
+
 use runner::run_card;
 use std::io;
 

@@ -1,4 +1,6 @@
 // The workings of a grip: the finished table with its roles and shares.
+#![tactic(auto)]
+
 mod choosing;
 mod making;
 mod reading;

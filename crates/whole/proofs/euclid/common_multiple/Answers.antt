@@ -12,10 +12,10 @@ beyond x b most h l = subst (λ (z : ℕ). most < z) (mul_comm b x) ((div-lt_iff
 
 pub returns-then-b-most : goal.returns-then-b-most
 returns-then-b-most c =
-    let x : ℕ = c.args.a / c.common-divisor-g.result in
+    let x : ℕ = c.args.a / c.common_divisor-g.result in
     let h : 0 < x = omega arith in
     let l : c.args.most / x < c.args.b = omega arith in
-    let over : c.args.most < lcm c.args.a c.args.b = subst (λ (g : ℕ). c.args.most < c.args.a / g * c.args.b) c.common-divisor-g.ensures (beyond x c.args.b c.args.most h l) in
+    let over : c.args.most < lcm c.args.a c.args.b = subst (λ (g : ℕ). c.args.most < c.args.a / g * c.args.b) c.common_divisor-g.ensures (beyond x c.args.b c.args.most h l) in
     sym (cond-false _ _ _ (lt-leb _ _ over))
 
 pub overflow-mul-result : goal.overflow-mul-result
@@ -28,9 +28,9 @@ overflow-mul-result c =
 
 pub returns : goal.returns
 returns c =
-    let x : ℕ = c.args.a / c.common-divisor-g.result in
+    let x : ℕ = c.args.a / c.common_divisor-g.result in
     let h : 0 < x = omega arith in
     let l : c.args.b ≤ c.args.most / x = omega arith in
-    let same : x * c.args.b ≡ lcm c.args.a c.args.b = ap (λ (g : ℕ). c.args.a / g * c.args.b) c.common-divisor-g.ensures in
+    let same : x * c.args.b ≡ lcm c.args.a c.args.b = ap (λ (g : ℕ). c.args.a / g * c.args.b) c.common_divisor-g.ensures in
     let w : lcm c.args.a c.args.b ≤ c.args.most = subst (λ (z : ℕ). z ≤ c.args.most) same (within x c.args.b c.args.most h l) in
     ap Some same ∙ sym (cond-true _ _ _ (le-leb _ _ w))

@@ -4,5 +4,5 @@ use Rattle.words.proofs.lines.place_line.Goals as goal
 
 pub returns : goal.returns
 returns c =
-    let p = placed c.copy-from-slice.new.self c.args.line.now c.args.out.now (length c.args.line.now) c.copy-from-slice.ensures.after refl in
+    let p = placed c.copy_from_slice.new.self c.args.line.now c.args.out.now (length c.args.line.now) c.copy_from_slice.ensures.after refl in
     (p.0, p.1, omega arith, omega arith)

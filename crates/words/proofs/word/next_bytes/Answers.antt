@@ -9,10 +9,10 @@ use Rattle.words.proofs.word.next_bytes.Goals.{then-place-text, else-place-text,
 pub returns : goal.returns
 returns c =
     let text = c.args.text.now in
-    let told = c.byte-from-end.ensures in
+    let told = c.byte_from-end.ensures in
     let here : drop c.args.place.now.at text ≡ drop c.if-place-text.start text = from_start text _ _ (elim c.if-place-text.branch [ then-place-text w ↦ inl w.start-is | else-place-text w ↦ inr (w.if-place-text.false, w.start-is) ]) in
     let first : pending text c.args.place.now ≡ pieces 32 (drop c.if-place-text.start text) = cond-false _ _ _ c.if-place.false ∙ ap (pieces 32) here in
-    let word = take (c.byte-from-end.result - c.if-place-text.start) (drop c.if-place-text.start text) in
+    let word = take (c.byte_from-end.result - c.if-place-text.start) (drop c.if-place-text.start text) in
     elim c.if-end-text.branch [
       | then-end-text w ↦
           let is = ap (λ p. p.at) w.place-is in
