@@ -18,9 +18,9 @@ returns-then-b-most c =
     let over : c.args.most < lcm c.args.a c.args.b = subst (λ (g : ℕ). c.args.most < c.args.a / g * c.args.b) c.common_divisor-g.ensures (beyond x c.args.b c.args.most h l) in
     sym (cond-false _ _ _ (lt-leb _ _ over))
 
-pub overflow-mul-result : goal.overflow-mul-result
-overflow-mul-result c =
-    let x : ℕ = c.args.a / c.common-divisor-g.result in
+pub overflow_mul-result : goal.overflow_mul-result
+overflow_mul-result c =
+    let x : ℕ = c.args.a / c.common_divisor-g.result in
     let h : 0 < x = omega arith in
     let l : c.args.b ≤ c.args.most / x = omega arith in
     let w : x * c.args.b ≤ c.args.most = within x c.args.b c.args.most h l in

@@ -1,4 +1,4 @@
 use Rattle.words.proofs.number.+append_digits.Given as goal
 
-abbrev pub decreases-append-digits : goal.decreases-append_digits
-decreases-append-digits l = l.n
+abbrev pub decreases-append_digits : goal.decreases-append_digits
+decreases-append_digits l = l.n
