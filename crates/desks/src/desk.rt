@@ -76,7 +76,7 @@ impl<K: Kind> Lists<K> {
 
 // What a call that gives nothing but its acceptance gave back.
 fn done<K: Kind>(r: Result<(), Refusal>) -> Answer<K>
-    ensures { reply_of coords result ≡ reply_to r }
+    ensures { reply_of K.coords result ≡ reply_to r }
 {
     match r {
         Ok(()) => Answer::Done,
@@ -91,8 +91,8 @@ fn bind_step<K: Kind>(
     coefficients: &[i64],
     q: K,
 ) -> (State, Answer<K>)
-    ensures after { use_of coords lists.new result.0 ≡ (binds size (in_use coords lists.old (numbers sheet) free) coefficients.now (coords q)).then }
-    ensures reply { Answers (binds size (in_use coords lists.old (numbers sheet) free) coefficients.now (coords q)).reply (reply_of coords result.1) }
+    ensures after { use_of K.coords lists.new result.0 ≡ (binds K.size (in_use K.coords lists.old (numbers sheet) free) coefficients.now (K.coords q)).then }
+    ensures reply { Answers (binds K.size (in_use K.coords lists.old (numbers sheet) free) coefficients.now (K.coords q)).reply (reply_of K.coords result.1) }
 {
     let mut sheet = sheet;
     let r = sheet.bind(
@@ -107,8 +107,8 @@ fn bind_step<K: Kind>(
 
 // An unbinding on a sheet without a grip.
 fn unbind_step<K: Kind>(lists: &mut Lists<K>, sheet: Sheet, number: i64) -> (State, Answer<K>)
-    ensures after { use_of coords lists.new result.0 ≡ (unbinds size (in_use coords lists.old (numbers sheet) free) number).then }
-    ensures reply { Answers (unbinds size (in_use coords lists.old (numbers sheet) free) number).reply (reply_of coords result.1) }
+    ensures after { use_of K.coords lists.new result.0 ≡ (unbinds K.size (in_use K.coords lists.old (numbers sheet) free) number).then }
+    ensures reply { Answers (unbinds K.size (in_use K.coords lists.old (numbers sheet) free) number).reply (reply_of K.coords result.1) }
 {
     let mut sheet = sheet;
     let r = sheet.unbind(

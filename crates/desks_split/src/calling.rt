@@ -25,7 +25,7 @@ fn free_step<K: Kind>(
     sheet: Sheet,
     call: &Call<K>,
 ) -> Result<(State, Answer<K>), AllocError>
-    ensures { SteppedIn coords (runs.step size (in_use coords lists.old (numbers sheet) runs.free) (call_of coords call.now)) lists.new result }
+    ensures { SteppedIn K.coords (runs.step K.size (in_use K.coords lists.old (numbers sheet) runs.free) (call_of K.coords call.now)) lists.new result }
 {
     match call {
         Call::Bind(coefficients, q) => Ok(bind_step(lists, sheet, coefficients, *q)),
@@ -45,7 +45,7 @@ fn gripped_step<K: Kind>(
     workings: Box<Workings>,
     call: &Call<K>,
 ) -> Result<(State, Answer<K>), AllocError>
-    ensures { SteppedIn coords (runs.step size (in_use coords lists.old (gripped_sheet grip) (runs.gripped (shown workings.value))) (call_of coords call.now)) lists.new result }
+    ensures { SteppedIn K.coords (runs.step K.size (in_use K.coords lists.old (gripped_sheet grip) (runs.gripped (shown workings.value))) (call_of K.coords call.now)) lists.new result }
 {
     match call {
         Call::Pull(wishes) => pull_step(heap, lists, grip, workings, wishes),
@@ -66,7 +66,7 @@ fn proposed_step<K: Kind>(
     denominator: i64,
     call: &Call<K>,
 ) -> Result<(State, Answer<K>), AllocError>
-    ensures { SteppedIn coords (runs.step size (in_use coords lists.old (gripped_sheet grip) (runs.proposing (shown workings.value) denominator)) (call_of coords call.now)) lists.new result }
+    ensures { SteppedIn K.coords (runs.step K.size (in_use K.coords lists.old (gripped_sheet grip) (runs.proposing (shown workings.value) denominator)) (call_of K.coords call.now)) lists.new result }
 {
     match call {
         Call::Pull(wishes) => pull_step(heap, lists, grip, workings, wishes),
@@ -82,7 +82,7 @@ fn proposed_step<K: Kind>(
 impl<K: Kind> Desk<K> {
     // Makes a call, and tells what it gave back. A call that is not open in the present state is refused; without memory for what it gives back there is no desk left.
     pub fn call(self, heap: Global, call: &Call<K>) -> Result<(Desk<K>, Answer<K>), AllocError>
-        ensures { Called coords (runs.step size (use_of coords self) (call_of coords call.now)) result }
+        ensures { Called K.coords (runs.step K.size (use_of K.coords self) (call_of K.coords call.now)) result }
     {
         let Desk { lists, state } = self;
         let mut lists = lists;

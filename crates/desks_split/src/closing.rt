@@ -16,8 +16,8 @@ pub struct Closed<K> {
 impl<K: Kind> Desk<K> {
     // Drops a grip that is open, and gives the sheet's values.
     pub fn close(self) -> Closed<K>
-        ensures values { map coords result.values.items ≡ take (use_of coords self).sheet.count (use_of coords self).values }
-        ensures denominator { result.denominator ≡ (use_of coords self).sheet.d }
+        ensures values { map K.coords result.values.items ≡ take (use_of K.coords self).sheet.count (use_of K.coords self).values }
+        ensures denominator { result.denominator ≡ (use_of K.coords self).sheet.d }
     {
         let Desk { lists, state } = self;
         let sheet = match state {

@@ -20,7 +20,7 @@ pub enum Fault {
 impl<K: Kind> Desk<K> {
     // Opens a sheet of `count` parameters.
     pub fn open(heap: Global, count: usize) -> Result<Desk<K>, Fault>
-        ensures { Opened size coords count result }
+        ensures { Opened K.size K.coords count result }
     {
         let Ok(mut lists) = Lists::new(heap) else {
             return Err(Fault::Memory);

@@ -41,8 +41,8 @@ impl Grip<Proposed> {
         proposal: &[K],
         denominator: i64,
     ) -> Result<Sheet, Refused<Grip<Proposed>>>
-        ensures result { shown_keep result ≡ handing_back (gripped_sheet self) (keeping size (gripped_sheet self) (map coords values.old) relations.now (map coords constants.now) (map coords proposal.now) denominator).0 }
-        ensures values { map coords values.new ≡ (keeping size (gripped_sheet self) (map coords values.old) relations.now (map coords constants.now) (map coords proposal.now) denominator).1 }
+        ensures result { shown_keep result ≡ handing_back (gripped_sheet self) (keeping K.size (gripped_sheet self) (map K.coords values.old) relations.now (map K.coords constants.now) (map K.coords proposal.now) denominator).0 }
+        ensures values { map K.coords values.new ≡ (keeping K.size (gripped_sheet self) (map K.coords values.old) relations.now (map K.coords constants.now) (map K.coords proposal.now) denominator).1 }
     {
         let n = self.sheet.count();
         if unfit(&self.sheet, values, relations, constants) {

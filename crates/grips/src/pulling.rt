@@ -24,10 +24,10 @@ impl<P: Drop> Grip<P> {
         proposal: &mut [K],
         working: &mut [K],
     ) -> Result<(Grip<Proposed>, i64), Refused<Grip<Unproposed>>>
-        ensures result { shown_pull result ≡ handing_back (gripped_sheet self) (image (λ d. (gripped_sheet self, d)) (pulling size (gripped_sheet self) (map coords values.now) relations.now (map coords constants.now) (shown workings.now) (map coords wishes.now) (map coords proposal.old) (map coords working.old)).0) }
-        ensures proposal { map coords proposal.new ≡ (pulling size (gripped_sheet self) (map coords values.now) relations.now (map coords constants.now) (shown workings.now) (map coords wishes.now) (map coords proposal.old) (map coords working.old)).1 }
-        ensures working { map coords working.new ≡ (pulling size (gripped_sheet self) (map coords values.now) relations.now (map coords constants.now) (shown workings.now) (map coords wishes.now) (map coords proposal.old) (map coords working.old)).2 }
-        ensures rightly { PulledRightly size (gripped_sheet self) (map coords values.now) relations.now (map coords constants.now) (shown workings.now) (map coords wishes.now) (pull_reply (gripped_sheet self).count (map coords proposal.new) result) }
+        ensures result { shown_pull result ≡ handing_back (gripped_sheet self) (image (λ d. (gripped_sheet self, d)) (pulling K.size (gripped_sheet self) (map K.coords values.now) relations.now (map K.coords constants.now) (shown workings.now) (map K.coords wishes.now) (map K.coords proposal.old) (map K.coords working.old)).0) }
+        ensures proposal { map K.coords proposal.new ≡ (pulling K.size (gripped_sheet self) (map K.coords values.now) relations.now (map K.coords constants.now) (shown workings.now) (map K.coords wishes.now) (map K.coords proposal.old) (map K.coords working.old)).1 }
+        ensures working { map K.coords working.new ≡ (pulling K.size (gripped_sheet self) (map K.coords values.now) relations.now (map K.coords constants.now) (shown workings.now) (map K.coords wishes.now) (map K.coords proposal.old) (map K.coords working.old)).2 }
+        ensures rightly { PulledRightly K.size (gripped_sheet self) (map K.coords values.now) relations.now (map K.coords constants.now) (shown workings.now) (map K.coords wishes.now) (pull_reply (gripped_sheet self).count (map K.coords proposal.new) result) }
     {
         let Grip { sheet, state } = self;
         drop(state);

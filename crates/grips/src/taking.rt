@@ -31,7 +31,7 @@ fn workings_of<K: Kind>(
     roles: &[Role],
     spare: &[usize],
 ) -> Result<Workings, Refusal>
-    ensures { image shown result ≡ grip_answer size (numbers sheet.now) (map coords values.now) relations.now (map coords constants.now) roles.now spare.now }
+    ensures { image shown result ≡ grip_answer K.size (numbers sheet.now) (map K.coords values.now) relations.now (map K.coords constants.now) roles.now spare.now }
 {
     let n = sheet.count();
     let bound = sheet.bound();
@@ -57,10 +57,10 @@ impl Grip<Unproposed> {
         roles: &[Role],
         spare: &mut [usize],
     ) -> Result<Gripped, Refused<Sheet>>
-        ensures result { shown_take result ≡ handing_back (numbers sheet) (image (λ w. (numbers sheet, w)) (grip_answer size (numbers sheet) (map coords values.now) relations.old (map coords constants.now) roles.now spare.old)) }
-        ensures marks { relations.new ≡ marks_after (grip_answer size (numbers sheet) (map coords values.now) relations.old (map coords constants.now) roles.now spare.old) (numbers sheet) relations.old (map coords constants.now) }
-        ensures implied { SparesRightly result (numbers sheet) relations.old (map coords constants.now) roles.now relations.new }
-        ensures spares { SparesTold result (numbers sheet) relations.old (map coords constants.now) spare.old spare.new }
+        ensures result { shown_take result ≡ handing_back (numbers sheet) (image (λ w. (numbers sheet, w)) (grip_answer K.size (numbers sheet) (map K.coords values.now) relations.old (map K.coords constants.now) roles.now spare.old)) }
+        ensures marks { relations.new ≡ marks_after (grip_answer K.size (numbers sheet) (map K.coords values.now) relations.old (map K.coords constants.now) roles.now spare.old) (numbers sheet) relations.old (map K.coords constants.now) }
+        ensures implied { SparesRightly result (numbers sheet) relations.old (map K.coords constants.now) roles.now relations.new }
+        ensures spares { SparesTold result (numbers sheet) relations.old (map K.coords constants.now) spare.old spare.new }
     {
         let workings = match workings_of(&sheet, values, relations, constants, roles, spare) {
             Ok(workings) => workings,

@@ -6,7 +6,7 @@ use crate::kind::Kind;
 
 // Whether some coordinate of v is above `most` in size.
 pub fn value_above<K: Kind>(v: K, most: u64) -> bool
-    ensures { result ≡ any size (λ c. above most (at (coords v) c)) }
+    ensures { result ≡ any K.size (λ c. above most (at (K.coords v) c)) }
 {
     for k in 0..K::count() {
         match v.coordinate(k) {
@@ -23,7 +23,7 @@ pub fn value_above<K: Kind>(v: K, most: u64) -> bool
 
 // Whether some coordinate of some value is above `most` in size.
 pub fn values_above<K: Kind>(vs: &[K], most: u64) -> bool
-    ensures { result ≡ any (length vs.now) (λ s. any size (λ c. above most (coord (map coords vs.now) s c))) }
+    ensures { result ≡ any (length vs.now) (λ s. any K.size (λ c. above most (coord (map K.coords vs.now) s c))) }
 {
     for v in vs {
         if value_above(*v, most) {

@@ -7,7 +7,7 @@ use crate::kind::Kind;
 
 // u + k × v where it fits, and u where it does not.
 pub fn combine<K: Kind>(u: K, k: i64, v: K) -> K
-    ensures { coords result ≡ (if all_fit (coords u) k (coords v) then plus_scaled (coords u) k (coords v) else coords u) }
+    ensures { K.coords result ≡ (if all_fit (K.coords u) k (K.coords v) then plus_scaled (K.coords u) k (K.coords v) else K.coords u) }
 {
     match u.plus_scaled(k, v) {
         Ok(w) => w,
@@ -17,7 +17,7 @@ pub fn combine<K: Kind>(u: K, k: i64, v: K) -> K
 
 // Coordinate k, and 0 where there is none.
 pub fn read<K: Kind>(v: K, k: usize) -> i64
-    ensures { result ≡ at (coords v) k }
+    ensures { result ≡ at (K.coords v) k }
 {
     match v.coordinate(k) {
         Ok(x) => x,
@@ -27,7 +27,7 @@ pub fn read<K: Kind>(v: K, k: usize) -> i64
 
 // v with x at coordinate k, and v itself where it has no such coordinate.
 pub fn write<K: Kind>(v: K, k: usize, x: i64) -> K
-    ensures { coords result ≡ slice_set (coords v) k x }
+    ensures { K.coords result ≡ slice_set (K.coords v) k x }
 {
     match v.with_coordinate(k, x) {
         Ok(changed) => changed,

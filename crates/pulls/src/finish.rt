@@ -31,15 +31,15 @@ pub(crate) fn finish<K: Kind>(
     requires shared { length shares.now ≡ length roles.now }
     requires proposed { length proposal.old ≡ length roles.now }
     requires share { (s : ℕ) → unsigned_abs (at shares.now s) ≤ 12 }
-    requires near { far_wish size (length roles.now) roles.now (map coords wishes.now) ≡ false }
-    requires values { unfit_values size (length roles.now) d (map coords values.now) ≡ false }
+    requires near { far_wish K.size (length roles.now) roles.now (map K.coords wishes.now) ≡ false }
+    requires values { unfit_values K.size (length roles.now) d (map K.coords values.now) ≡ false }
     requires few { length rows.now ≤ 12 }
     requires numbers { length numbers.now ≡ length rows.now }
     requires sums { length sums.old ≡ length rows.now }
     requires inside { (i : ℕ) → i < length rows.now → slice_index rows.now i < length relations.now }
     requires small { (s : ℕ) → s < length roles.now → (i : ℕ) → i < length rows.now → unsigned_abs (at (relation_at relations.now (slice_index rows.now i)).coefficients s) ≤ 1000 }
-    requires spare { (i : ℕ) → i < length numbers.now → slice_index numbers.now i ≡ 0 → (c : ℕ) → c < size → coord (map coords sums.old) i c ≡ pos 0 }
-    ensures { placed result (map coords proposal.new) ≡ finished size (length roles.now) roles.now shares.now d (map coords values.now) (map coords wishes.now) relations.now rows.now numbers.now (map coords sums.old) }
+    requires spare { (i : ℕ) → i < length numbers.now → slice_index numbers.now i ≡ 0 → (c : ℕ) → c < K.size → coord (map K.coords sums.old) i c ≡ pos 0 }
+    ensures { placed result (map K.coords proposal.new) ≡ finished K.size (length roles.now) roles.now shares.now d (map K.coords values.now) (map K.coords wishes.now) relations.now rows.now numbers.now (map K.coords sums.old) }
 {
     let l = multiple_of(numbers)?;
     multiply(l, numbers, sums)?;

@@ -8,7 +8,7 @@ use whole::common_divisor;
 
 // Sets all values to zero.
 pub(crate) fn clear<K: Kind>(values: &mut [K])
-    ensures { map coords values.new ≡ zeros (length values.old) size }
+    ensures { map K.coords values.new ≡ zeros (length values.old) K.size }
 {
     for s in 0..values.len() {
         values[s] = K::zero();
@@ -17,14 +17,14 @@ pub(crate) fn clear<K: Kind>(values: &mut [K])
 
 // u + k × v where it fits, and u where it does not; with a factor of 0 there is nothing to add.
 pub(crate) fn add<K: Kind>(u: K, k: i64, v: K) -> K
-    ensures { coords result ≡ plus (coords u) k (coords v) }
+    ensures { K.coords result ≡ plus (K.coords u) k (K.coords v) }
 {
     if k == 0 { u } else { combine(u, k, v) }
 }
 
 // The greatest common divisor of a number and all coordinates of a value.
 pub(crate) fn divisor_with<K: Kind>(a: u64, v: K) -> u64
-    ensures { result ≡ divisor_from a (coords v) }
+    ensures { result ≡ divisor_from a (K.coords v) }
 {
     let mut g = a;
     for k in 0..K::count() {
@@ -36,7 +36,7 @@ pub(crate) fn divisor_with<K: Kind>(a: u64, v: K) -> u64
 // Each coordinate divided by g.
 pub(crate) fn divided<K: Kind>(v: K, g: i64) -> K
     requires { pos 1 ≤ℤ g }
-    ensures { coords result ≡ quotients size (coords v) g }
+    ensures { K.coords result ≡ quotients K.size (K.coords v) g }
 {
     let mut quotient = v;
     for k in 0..K::count() {

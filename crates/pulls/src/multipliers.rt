@@ -43,7 +43,7 @@ pub(crate) fn multiple_of(numbers: &[u64]) -> Result<u64, Refusal>
 // A needed row's multiplier: ℓ ÷ p times what the row carries, if both are within their limits. A spare row stays as it is.
 fn multiplier<K: Kind>(l: u64, p: u64, g: K) -> Result<K, Refusal>
     requires { l ≤ table_limit }
-    ensures { image coords result ≡ guard (strays size l p (coords g)) TooFine (Ok (multiplied size l p (coords g))) }
+    ensures { image K.coords result ≡ guard (strays K.size l p (K.coords g)) TooFine (Ok (multiplied K.size l p (K.coords g))) }
 {
     if p == 0 {
         return Ok(g);
@@ -62,8 +62,8 @@ fn multiplier<K: Kind>(l: u64, p: u64, g: K) -> Result<K, Refusal>
 pub(crate) fn multiply<K: Kind>(l: u64, numbers: &[u64], sums: &mut [K]) -> Result<(), Refusal>
     requires multiple { l ≤ table_limit }
     requires many { length numbers.now ≡ length sums.old }
-    ensures answer { result ≡ guard (any (length numbers.now) (λ i. strays size l (slice_index numbers.now i) (slice_index_or (map coords sums.old) i []))) TooFine (Ok tt) }
-    ensures list { OnOk result (map coords sums.new ≡ all_multiplied size l numbers.now (map coords sums.old)) }
+    ensures answer { result ≡ guard (any (length numbers.now) (λ i. strays K.size l (slice_index numbers.now i) (slice_index_or (map K.coords sums.old) i []))) TooFine (Ok tt) }
+    ensures list { OnOk result (map K.coords sums.new ≡ all_multiplied K.size l numbers.now (map K.coords sums.old)) }
 {
     for i in 0..numbers.len() {
         sums[i] = multiplier(l, numbers[i], sums[i])?;

@@ -22,8 +22,8 @@ fn shift<K: Kind>(s: usize, relations: &[Relation], rows: &[usize], multipliers:
     requires long { length rows.now ≤ length multipliers.now }
     requires inside { (i : ℕ) → i < length rows.now → slice_index rows.now i < length relations.now }
     requires small { (i : ℕ) → i < length rows.now → unsigned_abs (at (relation_at relations.now (slice_index rows.now i)).coefficients s) ≤ 1000 }
-    requires limited { some_above most_multiplier size (length rows.now) (map coords multipliers.now) ≡ false }
-    ensures { coords result ≡ tab size (shift_at relations.now rows.now (map coords multipliers.now) s) }
+    requires limited { some_above most_multiplier K.size (length rows.now) (map K.coords multipliers.now) ≡ false }
+    ensures { K.coords result ≡ tab K.size (shift_at relations.now rows.now (map K.coords multipliers.now) s) }
 {
     let mut sum = K::zero();
     for i in 0..rows.len() {
@@ -35,10 +35,10 @@ fn shift<K: Kind>(s: usize, relations: &[Relation], rows: &[usize], multipliers:
 
 // One parameter's numerator: ℓ × n if it is held, e × wish if it is pulled, and that with its share of the shift if it is loose.
 fn numerator<K: Kind>(role: Role, l: i64, e: i64, value: K, wish: K, share: i64, moved: K) -> K
-    requires wished { is_held role ≡ false → (c : ℕ) → c < size → unsigned_abs (e *ℤ at (coords wish) c) ≤ 5000000000000000000 }
-    requires shifted { (c : ℕ) → c < size → unsigned_abs (share *ℤ at (coords moved) c) ≤ 5000000000000000000 }
-    requires whole { (c : ℕ) → c < size → unsigned_abs (numerator_over role l e (at (coords value) c) (at (coords wish) c) share (at (coords moved) c)) ≤ 5000000000000000000 }
-    ensures { coords result ≡ tab size (λ c. numerator_over role l e (at (coords value) c) (at (coords wish) c) share (at (coords moved) c)) }
+    requires wished { is_held role ≡ false → (c : ℕ) → c < K.size → unsigned_abs (e *ℤ at (K.coords wish) c) ≤ 5000000000000000000 }
+    requires shifted { (c : ℕ) → c < K.size → unsigned_abs (share *ℤ at (K.coords moved) c) ≤ 5000000000000000000 }
+    requires whole { (c : ℕ) → c < K.size → unsigned_abs (numerator_over role l e (at (K.coords value) c) (at (K.coords wish) c) share (at (K.coords moved) c)) ≤ 5000000000000000000 }
+    ensures { K.coords result ≡ tab K.size (λ c. numerator_over role l e (at (K.coords value) c) (at (K.coords wish) c) share (at (K.coords moved) c)) }
 {
     match role {
         Role::Held => add(K::zero(), l, value),
@@ -67,14 +67,14 @@ pub(crate) fn write_numerators<K: Kind>(
     requires shared { length shares.now ≡ length roles.now }
     requires proposed { length proposal.old ≡ length roles.now }
     requires share { (s : ℕ) → unsigned_abs (at shares.now s) ≤ 12 }
-    requires near { far_wish size (length roles.now) roles.now (map coords wishes.now) ≡ false }
-    requires values { unfit_values size (length roles.now) d (map coords values.now) ≡ false }
+    requires near { far_wish K.size (length roles.now) roles.now (map K.coords wishes.now) ≡ false }
+    requires values { unfit_values K.size (length roles.now) d (map K.coords values.now) ≡ false }
     requires few { length rows.now ≤ 12 }
     requires long { length rows.now ≤ length multipliers.now }
     requires inside { (i : ℕ) → i < length rows.now → slice_index rows.now i < length relations.now }
     requires small { (s : ℕ) → s < length roles.now → (i : ℕ) → i < length rows.now → unsigned_abs (at (relation_at relations.now (slice_index rows.now i)).coefficients s) ≤ 1000 }
-    requires limited { some_above most_multiplier size (length rows.now) (map coords multipliers.now) ≡ false }
-    ensures { map coords proposal.new ≡ grid (length roles.now) size (λ s c. rule.numerator (gripping.role roles.now s) (pos l) d (coord (map coords values.now) s c) (coord (map coords wishes.now) s c) (at shares.now s) (shift_at relations.now rows.now (map coords multipliers.now) s c)) }
+    requires limited { some_above most_multiplier K.size (length rows.now) (map K.coords multipliers.now) ≡ false }
+    ensures { map K.coords proposal.new ≡ grid (length roles.now) K.size (λ s c. rule.numerator (gripping.role roles.now s) (pos l) d (coord (map K.coords values.now) s c) (coord (map K.coords wishes.now) s c) (at shares.now s) (shift_at relations.now rows.now (map K.coords multipliers.now) s c)) }
 {
     let l = l as i64;
     let e = l * d;

@@ -45,14 +45,14 @@ fn solve<K: Kind>(
     requires shared { length shares.now ≡ length roles.now }
     requires proposed { length proposal.old ≡ length roles.now }
     requires share { (s : ℕ) → unsigned_abs (at shares.now s) ≤ 12 }
-    requires values { unfit_values size (length roles.now) d (map coords values.now) ≡ false }
-    requires fine { Fine size (length roles.now) relations.now (map coords constants.now) rows.now }
+    requires values { unfit_values K.size (length roles.now) d (map K.coords values.now) ≡ false }
+    requires fine { Fine K.size (length roles.now) relations.now (map K.coords constants.now) rows.now }
     requires few { length rows.now ≤ 12 }
     requires rows { length rows.now ≡ (shown workings.now).m }
     requires lowered { length lowered.old ≡ length rows.now }
     requires found { length found.old ≡ length rows.now }
     requires sums { length sums.old ≡ length rows.now }
-    ensures { placed result (map coords proposal.new) ≡ proposed size (length roles.now) roles.now shares.now (chosen (length roles.now) relations.now (map coords constants.now) rows.now) (shown workings.now).table d (map coords values.now) (map coords wishes.now) }
+    ensures { placed result (map K.coords proposal.new) ≡ proposed K.size (length roles.now) roles.now shares.now (chosen (length roles.now) relations.now (map K.coords constants.now) rows.now) (shown workings.now).table d (map K.coords values.now) (map K.coords wishes.now) }
 {
     if far_wish(roles, wishes) {
         return Err(Refusal::WishTooFar);
@@ -81,11 +81,11 @@ fn solve_in<K: Kind>(
     requires wished { (shown workings.now).count ≤ length wishes.now }
     requires room { (shown workings.now).count ≤ length values.now }
     requires proposed { length proposal.old ≡ (shown workings.now).count }
-    requires values { unfit_values size (shown workings.now).count d (map coords values.now) ≡ false }
-    requires fine { Fine size (shown workings.now).count relations.now (map coords constants.now) rows.now }
+    requires values { unfit_values K.size (shown workings.now).count d (map K.coords values.now) ≡ false }
+    requires fine { Fine K.size (shown workings.now).count relations.now (map K.coords constants.now) rows.now }
     requires rows { length rows.now ≡ (shown workings.now).m }
     requires working { length working.old ≡ 24 }
-    ensures { placed result (map coords proposal.new) ≡ proposed size (shown workings.now).count (shown workings.now).roles (shown workings.now).shares (chosen (shown workings.now).count relations.now (map coords constants.now) rows.now) (shown workings.now).table d (map coords values.now) (map coords wishes.now) }
+    ensures { placed result (map K.coords proposal.new) ≡ proposed K.size (shown workings.now).count (shown workings.now).roles (shown workings.now).shares (chosen (shown workings.now).count relations.now (map K.coords constants.now) rows.now) (shown workings.now).table d (map K.coords values.now) (map K.coords wishes.now) }
 {
     let m = workings.m();
     let mut lowered = [0; MOST_ROWS];
@@ -123,11 +123,11 @@ fn pull<K: Kind>(
     requires wished { (shown workings.now).count ≤ length wishes.now }
     requires room { (shown workings.now).count ≤ length values.now }
     requires proposed { length proposal.old ≡ (shown workings.now).count }
-    requires values { unfit_values size (shown workings.now).count d (map coords values.now) ≡ false }
-    requires fine { Fine size (shown workings.now).count relations.now (map coords constants.now) rows.now }
+    requires values { unfit_values K.size (shown workings.now).count d (map K.coords values.now) ≡ false }
+    requires fine { Fine K.size (shown workings.now).count relations.now (map K.coords constants.now) rows.now }
     requires rows { length rows.now ≡ (shown workings.now).m }
     requires working { length working.old ≡ 24 }
-    ensures { (result, map coords proposal.new, map coords working.new) ≡ exactly size (shown workings.now).count (proposed size (shown workings.now).count (shown workings.now).roles (shown workings.now).shares (chosen (shown workings.now).count relations.now (map coords constants.now) rows.now) (shown workings.now).table d (map coords values.now) (map coords wishes.now)) }
+    ensures { (result, map K.coords proposal.new, map K.coords working.new) ≡ exactly K.size (shown workings.now).count (proposed K.size (shown workings.now).count (shown workings.now).roles (shown workings.now).shares (chosen (shown workings.now).count relations.now (map K.coords constants.now) rows.now) (shown workings.now).table d (map K.coords values.now) (map K.coords wishes.now)) }
 {
     let answer = solve_in(
         d, values, relations, constants, rows, workings, wishes, proposal, working,
@@ -153,7 +153,7 @@ fn unfit_lists<K: Kind>(
     proposal: &[K],
     working: &[K],
 ) -> bool
-    ensures { result ≡ (nat_lt (length wishes.now) (numbers sheet.now).count || nat_lt (length proposal.now) (numbers sheet.now).count || nat_lt (length working.now) 24 || unfit size (numbers sheet.now) (map coords values.now) relations.now (map coords constants.now) || not ((shown workings.now).count == (numbers sheet.now).count)) }
+    ensures { result ≡ (nat_lt (length wishes.now) (numbers sheet.now).count || nat_lt (length proposal.now) (numbers sheet.now).count || nat_lt (length working.now) 24 || unfit K.size (numbers sheet.now) (map K.coords values.now) relations.now (map K.coords constants.now) || not ((shown workings.now).count == (numbers sheet.now).count)) }
 {
     let n = sheet.count();
     wishes.len() < n
@@ -174,7 +174,7 @@ pub fn propose<K: Kind>(
     proposal: &mut [K],
     working: &mut [K],
 ) -> Result<i64, Refusal>
-    ensures { (result, map coords proposal.new, map coords working.new) ≡ pulling size (numbers sheet.now) (map coords values.now) relations.now (map coords constants.now) (shown workings.now) (map coords wishes.now) (map coords proposal.old) (map coords working.old) }
+    ensures { (result, map K.coords proposal.new, map K.coords working.new) ≡ pulling K.size (numbers sheet.now) (map K.coords values.now) relations.now (map K.coords constants.now) (shown workings.now) (map K.coords wishes.now) (map K.coords proposal.old) (map K.coords working.old) }
 {
     if unfit_lists(
         sheet, values, relations, constants, workings, wishes, proposal, working,

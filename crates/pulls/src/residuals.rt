@@ -17,7 +17,7 @@ const MOST_STEPS: u64 = 47_560;
 
 // Whether a wish is read and has a coordinate off the sheet.
 fn far<K: Kind>(role: Role, wish: K) -> bool
-    ensures { result ≡ (not (is_held role) && any size (λ c. above 47560 (at (coords wish) c))) }
+    ensures { result ≡ (not (is_held role) && any K.size (λ c. above 47560 (at (K.coords wish) c))) }
 {
     match role {
         Role::Held => false,
@@ -29,7 +29,7 @@ fn far<K: Kind>(role: Role, wish: K) -> bool
 // Whether a wish that is read has a coordinate off the sheet.
 pub(crate) fn far_wish<K: Kind>(roles: &[Role], wishes: &[K]) -> bool
     requires { length roles.now ≤ length wishes.now }
-    ensures { result ≡ far_wish size (length roles.now) roles.now (map coords wishes.now) }
+    ensures { result ≡ far_wish K.size (length roles.now) roles.now (map K.coords wishes.now) }
 {
     for s in 0..roles.len() {
         if far(roles[s], wishes[s]) {
@@ -42,7 +42,7 @@ pub(crate) fn far_wish<K: Kind>(roles: &[Role], wishes: &[K]) -> bool
 // A residual less one parameter's term: d × coefficient × wish, or coefficient × kept numerator where it is held.
 fn less_term<K: Kind>(sum: K, d: i64, coefficient: i64, role: Role, wish: K, value: K) -> K
     requires { (unsigned_abs d ≤ 45000) × (unsigned_abs coefficient ≤ 1000) }
-    ensures { coords result ≡ plus (coords sum) (factor role d coefficient) (taken role (coords wish) (coords value)) }
+    ensures { K.coords result ≡ plus (K.coords sum) (factor role d coefficient) (taken role (K.coords wish) (K.coords value)) }
 {
     match role {
         Role::Held => add(sum, -coefficient, value),
@@ -63,11 +63,11 @@ pub(crate) fn residual<K: Kind>(
     requires few { length roles.now ≤ 48 }
     requires wished { length roles.now ≤ length wishes.now }
     requires room { length roles.now ≤ length values.now }
-    requires near { far_wish size (length roles.now) roles.now (map coords wishes.now) ≡ false }
-    requires values { unfit_values size (length roles.now) d (map coords values.now) ≡ false }
+    requires near { far_wish K.size (length roles.now) roles.now (map K.coords wishes.now) ≡ false }
+    requires values { unfit_values K.size (length roles.now) d (map K.coords values.now) ≡ false }
     requires small { bad_coefs (length roles.now) relation.now.coefficients ≡ false }
-    requires constant { bad_constant size (coords q) ≡ false }
-    ensures { coords result ≡ tab size (residual_at (length roles.now) roles.now d (map coords values.now) (map coords wishes.now) relation.now.coefficients (coords q)) }
+    requires constant { bad_constant K.size (K.coords q) ≡ false }
+    ensures { K.coords result ≡ tab K.size (residual_at (length roles.now) roles.now d (map K.coords values.now) (map K.coords wishes.now) relation.now.coefficients (K.coords q)) }
 {
     let mut sum = add(K::zero(), d, q);
     for s in 0..roles.len() {
@@ -88,8 +88,8 @@ pub(crate) fn carried<K: Kind>(row: &[i64], residuals: &[K]) -> K
     requires long { length row.now ≤ length residuals.now }
     requires few { length row.now ≤ 12 }
     requires limited { (j : ℕ) → unsigned_abs (at row.now j) ≤ table_limit }
-    requires small { some_above most_residual size (length row.now) (map coords residuals.now) ≡ false }
-    ensures { coords result ≡ tab size (carried_at (length row.now) row.now (map coords residuals.now)) }
+    requires small { some_above most_residual K.size (length row.now) (map K.coords residuals.now) ≡ false }
+    ensures { K.coords result ≡ tab K.size (carried_at (length row.now) row.now (map K.coords residuals.now)) }
 {
     let mut sum = K::zero();
     for j in 0..row.len() {

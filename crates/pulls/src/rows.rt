@@ -32,12 +32,12 @@ pub(crate) fn write_residuals<K: Kind>(
     requires few { length roles.now ≤ 48 }
     requires wished { length roles.now ≤ length wishes.now }
     requires room { length roles.now ≤ length values.now }
-    requires near { far_wish size (length roles.now) roles.now (map coords wishes.now) ≡ false }
-    requires values { unfit_values size (length roles.now) d (map coords values.now) ≡ false }
-    requires fine { Fine size (length roles.now) relations.now (map coords constants.now) rows.now }
+    requires near { far_wish K.size (length roles.now) roles.now (map K.coords wishes.now) ≡ false }
+    requires values { unfit_values K.size (length roles.now) d (map K.coords values.now) ≡ false }
+    requires fine { Fine K.size (length roles.now) relations.now (map K.coords constants.now) rows.now }
     requires many { length found.old ≡ length rows.now }
-    ensures answer { result ≡ guard (some_above most_residual size (length rows.now) (residuals size (length roles.now) roles.now (chosen (length roles.now) relations.now (map coords constants.now) rows.now) d (map coords values.now) (map coords wishes.now))) GapTooLarge (Ok tt) }
-    ensures list { OnOk result (map coords found.new ≡ residuals size (length roles.now) roles.now (chosen (length roles.now) relations.now (map coords constants.now) rows.now) d (map coords values.now) (map coords wishes.now)) }
+    ensures answer { result ≡ guard (some_above most_residual K.size (length rows.now) (residuals K.size (length roles.now) roles.now (chosen (length roles.now) relations.now (map K.coords constants.now) rows.now) d (map K.coords values.now) (map K.coords wishes.now))) GapTooLarge (Ok tt) }
+    ensures list { OnOk result (map K.coords found.new ≡ residuals K.size (length roles.now) roles.now (chosen (length roles.now) relations.now (map K.coords constants.now) rows.now) d (map K.coords values.now) (map K.coords wishes.now)) }
 {
     for i in 0..rows.len() {
         let j = rows[i];
@@ -54,7 +54,7 @@ pub(crate) fn write_residuals<K: Kind>(
 // something other than zero has no placing.
 fn lower_row<K: Kind>(p: u64, g: K) -> Result<(u64, K), Refusal>
     requires { p ≤ table_limit }
-    ensures { image (λ q. (q.0, coords q.1)) result ≡ lower size p (coords g) }
+    ensures { image (λ q. (q.0, K.coords q.1)) result ≡ lower K.size p (K.coords g) }
 {
     if p == 0 {
         if value_above(g, 0) {
@@ -76,10 +76,10 @@ pub(crate) fn write_carried<K: Kind>(
     requires many { length found.now ≡ (shown workings.now).m }
     requires numbers { length diagonal.old ≡ (shown workings.now).m }
     requires sums { length sums.old ≡ (shown workings.now).m }
-    requires small { some_above most_residual size (shown workings.now).m (map coords found.now) ≡ false }
-    ensures answer { result ≡ guard (contradicts size (shown workings.now).m (shown workings.now).table (carried size (shown workings.now).m (shown workings.now).table (map coords found.now))) Impossible (Ok tt) }
-    ensures numbers { OnOk result (diagonal.new ≡ lowered (shown workings.now).m (shown workings.now).table (divisors (shown workings.now).m (shown workings.now).table (carried size (shown workings.now).m (shown workings.now).table (map coords found.now)))) }
-    ensures sums { OnOk result (map coords sums.new ≡ lowered_sums size (shown workings.now).m (carried size (shown workings.now).m (shown workings.now).table (map coords found.now)) (divisors (shown workings.now).m (shown workings.now).table (carried size (shown workings.now).m (shown workings.now).table (map coords found.now)))) }
+    requires small { some_above most_residual K.size (shown workings.now).m (map K.coords found.now) ≡ false }
+    ensures answer { result ≡ guard (contradicts K.size (shown workings.now).m (shown workings.now).table (carried K.size (shown workings.now).m (shown workings.now).table (map K.coords found.now))) Impossible (Ok tt) }
+    ensures numbers { OnOk result (diagonal.new ≡ lowered (shown workings.now).m (shown workings.now).table (divisors (shown workings.now).m (shown workings.now).table (carried K.size (shown workings.now).m (shown workings.now).table (map K.coords found.now)))) }
+    ensures sums { OnOk result (map K.coords sums.new ≡ lowered_sums K.size (shown workings.now).m (carried K.size (shown workings.now).m (shown workings.now).table (map K.coords found.now)) (divisors (shown workings.now).m (shown workings.now).table (carried K.size (shown workings.now).m (shown workings.now).table (map K.coords found.now)))) }
 {
     for i in 0..workings.m() {
         let p = workings.diagonal(i);

@@ -14,7 +14,7 @@ const MOST_DENOMINATOR: u64 = 45_000;
 
 // The greatest common divisor of e and all coordinates of the numerators.
 fn divisor_over<K: Kind>(e: u64, proposal: &[K]) -> u64
-    ensures { result ≡ divisor_from e (joined (map coords proposal.now)) }
+    ensures { result ≡ divisor_from e (joined (map K.coords proposal.now)) }
 {
     let mut g = e;
     for s in 0..proposal.len() {
@@ -26,7 +26,7 @@ fn divisor_over<K: Kind>(e: u64, proposal: &[K]) -> u64
 // Divides the numerators by g.
 fn divide_all<K: Kind>(g: i64, proposal: &mut [K])
     requires { pos 1 ≤ℤ g }
-    ensures { map coords proposal.new ≡ grid (length proposal.old) size (λ s c. int_div (coord (map coords proposal.old) s c) g) }
+    ensures { map K.coords proposal.new ≡ grid (length proposal.old) K.size (λ s c. int_div (coord (map K.coords proposal.old) s c) g) }
 {
     for s in 0..proposal.len() {
         proposal[s] = divided(proposal[s], g);
@@ -36,7 +36,7 @@ fn divide_all<K: Kind>(g: i64, proposal: &mut [K])
 // The proposal in lowest terms, from its numerators over e.
 pub(crate) fn settle<K: Kind>(e: u64, proposal: &mut [K]) -> Result<i64, Refusal>
     requires { (0 < e) × (e ≤ 100000000000000) }
-    ensures { placed result (map coords proposal.new) ≡ settled size (length proposal.old) (lowest size (length proposal.old) (pos e) (map coords proposal.old)) }
+    ensures { placed result (map K.coords proposal.new) ≡ settled K.size (length proposal.old) (lowest K.size (length proposal.old) (pos e) (map K.coords proposal.old)) }
 {
     let h = divisor_over(e, proposal);
     let d = e / h;

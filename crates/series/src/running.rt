@@ -17,7 +17,7 @@ pub struct Ran<K> {
 
 // Opens a sheet of `count` parameters and makes the calls in their order. A grip that is open at the end is dropped.
 pub fn run<K: Kind>(heap: Global, count: usize, calls: &[Call<K>]) -> Result<Ran<K>, Fault>
-    ensures { RanLawfully size coords count (map (call_of coords) calls.now) result }
+    ensures { RanLawfully K.size K.coords count (map (call_of K.coords) calls.now) result }
 {
     let Ok(mut answers) = Vec::with_capacity(heap, calls.len()) else {
         return Err(Fault::Memory);

@@ -19,7 +19,7 @@ use workings::Workings;
 
 // What a call that gives nothing but its acceptance gave back.
 fn done<K: Kind>(r: Result<(), Refusal>) -> Answer<K>
-    ensures { reply_of coords result ≡ runs.reply_to r }
+    ensures { reply_of K.coords result ≡ runs.reply_to r }
 {
     match r {
         Ok(()) => Answer::Done,
@@ -33,7 +33,7 @@ pub fn bind_step<K: Kind>(
     coefficients: &[i64],
     q: K,
 ) -> (State, Answer<K>)
-    ensures { Stepped coords (runs.binds size (in_use coords lists.old (numbers sheet) runs.free) coefficients.now (coords q)) lists.new result }
+    ensures { Stepped K.coords (runs.binds K.size (in_use K.coords lists.old (numbers sheet) runs.free) coefficients.now (K.coords q)) lists.new result }
 {
     let mut sheet = sheet;
     let r = sheet.bind(
@@ -47,7 +47,7 @@ pub fn bind_step<K: Kind>(
 }
 
 pub fn unbind_step<K: Kind>(lists: &mut Lists<K>, sheet: Sheet, number: i64) -> (State, Answer<K>)
-    ensures { Stepped coords (runs.unbinds size (in_use coords lists.old (numbers sheet) runs.free) number) lists.new result }
+    ensures { Stepped K.coords (runs.unbinds K.size (in_use K.coords lists.old (numbers sheet) runs.free) number) lists.new result }
 {
     let mut sheet = sheet;
     let r = sheet.unbind(
@@ -66,7 +66,7 @@ fn gripped<K: Kind>(
     workings: Workings,
     spares: &[usize],
 ) -> Result<(State, Answer<K>), AllocError>
-    ensures { IfOk result (Means coords (gripped_sheet grip) (runs.gripped (shown workings)) (Ok (runs.spares spares.now))) }
+    ensures { IfOk result (Means K.coords (gripped_sheet grip) (runs.gripped (shown workings)) (Ok (runs.spares spares.now))) }
 {
     let Ok(workings) = Box::new(heap, workings) else {
         let _ = grip.release();
@@ -87,7 +87,7 @@ pub fn grip_step<K: Kind>(
     sheet: Sheet,
     roles: &[Role],
 ) -> Result<(State, Answer<K>), AllocError>
-    ensures { SteppedIn coords (runs.grips size (in_use coords lists.old (numbers sheet) runs.free) roles.now) lists.new result }
+    ensures { SteppedIn K.coords (runs.grips K.size (in_use K.coords lists.old (numbers sheet) runs.free) roles.now) lists.new result }
 {
     match Grip::take(
         sheet,

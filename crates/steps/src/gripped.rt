@@ -21,7 +21,7 @@ fn proposed<K: Kind>(
     denominator: i64,
     numerators: &[K],
 ) -> Result<(State, Answer<K>), AllocError>
-    ensures { IfOk result (Means coords (gripped_sheet grip) (runs.proposing (shown workings.value) denominator) (Ok (runs.placing (record { over = denominator; nums = map coords numerators.now })))) }
+    ensures { IfOk result (Means K.coords (gripped_sheet grip) (runs.proposing (shown workings.value) denominator) (Ok (runs.placing (record { over = denominator; nums = map K.coords numerators.now })))) }
 {
     match Vec::from_slice(heap, numerators) {
         Ok(numerators) => Ok((
@@ -43,7 +43,7 @@ pub fn pull_step<K: Kind, P: Drop>(
     workings: Box<Workings>,
     wishes: &[K],
 ) -> Result<(State, Answer<K>), AllocError>
-    ensures { SteppedIn coords (runs.pulls size (in_use coords lists.old (gripped_sheet grip) (runs.gripped (shown workings.value))) (shown workings.value) (map coords wishes.now)) lists.new result }
+    ensures { SteppedIn K.coords (runs.pulls K.size (in_use K.coords lists.old (gripped_sheet grip) (runs.gripped (shown workings.value))) (shown workings.value) (map K.coords wishes.now)) lists.new result }
 {
     match grip.pull(
         &lists.values,
@@ -79,7 +79,7 @@ pub fn keep_step<K: Kind>(
     workings: Box<Workings>,
     denominator: i64,
 ) -> (State, Answer<K>)
-    ensures { Stepped coords (runs.keeps size (in_use coords lists.old (gripped_sheet grip) (runs.proposing (shown workings.value) denominator)) denominator) lists.new result }
+    ensures { Stepped K.coords (runs.keeps K.size (in_use K.coords lists.old (gripped_sheet grip) (runs.proposing (shown workings.value) denominator)) denominator) lists.new result }
 {
     match grip.keep(
         &mut lists.values,

@@ -28,7 +28,7 @@ const SPARES: usize = 12;
 
 // n values of zero.
 fn zeros_of<K: Kind>(heap: Global, n: usize) -> Result<Vec<K>, AllocError>
-    ensures { IfOk result (λ v. map coords v.items ≡ zeros n size) }
+    ensures { IfOk result (λ v. map K.coords v.items ≡ zeros n K.size) }
 {
     let mut values = Vec::with_capacity(heap, n)?;
     for _s in 0..n {
@@ -40,7 +40,7 @@ fn zeros_of<K: Kind>(heap: Global, n: usize) -> Result<Vec<K>, AllocError>
 impl<K: Kind> Lists<K> {
     // Lists of zeros as long as any sheet needs.
     pub fn new(heap: Global) -> Result<Lists<K>, AllocError>
-        ensures { IfOk result (λ l. Fresh size coords l) }
+        ensures { IfOk result (λ l. Fresh K.size K.coords l) }
     {
         let blank = Relation {
             coefficients: [0; PARAMETERS],

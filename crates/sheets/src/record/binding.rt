@@ -17,9 +17,9 @@ fn gap<K: Kind>(n: usize, d: i64, values: &[K], coefficients: &[i64], q: K) -> K
     requires room { n ≤ length values.now }
     requires long { n ≤ length coefficients.now }
     requires small { bad_coefs n coefficients.now ≡ false }
-    requires values { unfit_values size n d (map coords values.now) ≡ false }
-    requires constant { bad_constant size (coords q) ≡ false }
-    ensures { (c : ℕ) → at (coords result) c ≡ gap_at n d (map coords values.now) coefficients.now (coords q) c }
+    requires values { unfit_values K.size n d (map K.coords values.now) ≡ false }
+    requires constant { bad_constant K.size (K.coords q) ≡ false }
+    ensures { (c : ℕ) → at (K.coords result) c ≡ gap_at n d (map K.coords values.now) coefficients.now (K.coords q) c }
 {
     let mut sum = combine(K::zero(), -d, q);
     for s in 0..n {
@@ -34,9 +34,9 @@ fn untrue<K: Kind>(n: usize, d: i64, values: &[K], coefficients: &[i64], q: K) -
     requires room { n ≤ length values.now }
     requires long { n ≤ length coefficients.now }
     requires small { bad_coefs n coefficients.now ≡ false }
-    requires values { unfit_values size n d (map coords values.now) ≡ false }
-    requires constant { bad_constant size (coords q) ≡ false }
-    ensures { result ≡ untrue size n d (map coords values.now) (bond n coefficients.now (coords q)) }
+    requires values { unfit_values K.size n d (map K.coords values.now) ≡ false }
+    requires constant { bad_constant K.size (K.coords q) ≡ false }
+    ensures { result ≡ untrue K.size n d (map K.coords values.now) (bond n coefficients.now (K.coords q)) }
 {
     value_above(gap(n, d, values, coefficients, q), 0)
 }
@@ -79,7 +79,7 @@ impl Sheet {
         coefficients: &[i64],
         q: K,
     ) -> Result<(), Refusal>
-        ensures { result ≡ bind_answer size (numbers self.now) (map coords values.now) relations.now (map coords constants.now) coefficients.now (coords q) }
+        ensures { result ≡ bind_answer K.size (numbers self.now) (map K.coords values.now) relations.now (map K.coords constants.now) coefficients.now (K.coords q) }
     {
         if coefficients.len() < self.count {
             return Err(Refusal::Unfit);
@@ -114,7 +114,7 @@ impl Sheet {
         coefficients: &[i64],
         q: K,
     ) -> Result<(), Refusal>
-        ensures { (result, numbers self.new, relations.new, map coords constants.new) ≡ binding size (numbers self.old) (map coords values.now) relations.old (map coords constants.old) coefficients.now (coords q) }
+        ensures { (result, numbers self.new, relations.new, map K.coords constants.new) ≡ binding K.size (numbers self.old) (map K.coords values.now) relations.old (map K.coords constants.old) coefficients.now (K.coords q) }
     {
         self.bind_answer(values, relations, constants, coefficients, q)?;
         let b = self.bound;
@@ -132,7 +132,7 @@ impl Sheet {
         constants: &mut [K],
         number: i64,
     ) -> Result<(), Refusal>
-        ensures { (result, numbers self.new, relations.new, map coords constants.new) ≡ unbinding size (numbers self.old) (map coords values.now) relations.old (map coords constants.old) number }
+        ensures { (result, numbers self.new, relations.new, map K.coords constants.new) ≡ unbinding K.size (numbers self.old) (map K.coords values.now) relations.old (map K.coords constants.old) number }
     {
         if unfit(self, values, relations, constants) {
             return Err(Refusal::Unfit);

@@ -46,21 +46,21 @@ pub(crate) fn bad_coefficients(n: usize, coefficients: &[i64]) -> bool
 }
 
 pub(crate) fn bad_constant<K: Kind>(q: K) -> bool
-    ensures { result ≡ bad_constant size (coords q) }
+    ensures { result ≡ bad_constant K.size (K.coords q) }
 {
     value_above(q, MOST_CONSTANT)
 }
 
 fn bad_relation<K: Kind>(n: usize, relation: &Relation, q: K) -> bool
     requires { n ≤ 48 }
-    ensures { result ≡ bad_relation size n relation.now (coords q) }
+    ensures { result ≡ bad_relation K.size n relation.now (K.coords q) }
 {
     bad_coefficients(n, &relation.coefficients) || bad_constant(q)
 }
 
 // Whether the list of values is short for n parameters, or a number of theirs, the denominator d included, breaks its limit.
 pub fn unfit_values<K: Kind>(n: usize, d: i64, values: &[K]) -> bool
-    ensures { result ≡ unfit_values size n d (map coords values.now) }
+    ensures { result ≡ unfit_values K.size n d (map K.coords values.now) }
 {
     if values.len() < n {
         return true;
@@ -73,7 +73,7 @@ pub fn unfit_values<K: Kind>(n: usize, d: i64, values: &[K]) -> bool
 
 // Whether a list by relation is short, or a number of a bound relation breaks its limit.
 fn unfit_relations<K: Kind>(sheet: &Sheet, relations: &[Relation], constants: &[K]) -> bool
-    ensures { result ≡ unfit_relations size (numbers sheet.now) relations.now (map coords constants.now) }
+    ensures { result ≡ unfit_relations K.size (numbers sheet.now) relations.now (map K.coords constants.now) }
 {
     if relations.len() < MOST_RELATIONS {
         return true;
@@ -91,7 +91,7 @@ fn unfit_relations<K: Kind>(sheet: &Sheet, relations: &[Relation], constants: &[
 
 // Whether a list of the sheet is short, or a number of a kept value or of a bound relation breaks its limit.
 pub fn unfit<K: Kind>(sheet: &Sheet, values: &[K], relations: &[Relation], constants: &[K]) -> bool
-    ensures { result ≡ unfit size (numbers sheet.now) (map coords values.now) relations.now (map coords constants.now) }
+    ensures { result ≡ unfit K.size (numbers sheet.now) (map K.coords values.now) relations.now (map K.coords constants.now) }
 {
     if unfit_values(sheet.count, sheet.denominator, values) {
         return true;

@@ -12,7 +12,7 @@ use records::Refusal;
 // Sets the first n values to zero.
 fn clear<K: Kind>(n: usize, values: &mut [K])
     requires { n ≤ length values.old }
-    ensures { map coords values.new ≡ written n (zeros n size) (map coords values.old) }
+    ensures { map K.coords values.new ≡ written n (zeros n K.size) (map K.coords values.old) }
 {
     for s in 0..n {
         values[s] = K::zero();
@@ -22,7 +22,7 @@ fn clear<K: Kind>(n: usize, values: &mut [K])
 impl Sheet {
     // Opens a sheet of `count` parameters: all values zero over 1, and nothing bound.
     pub fn open<K: Kind>(count: usize, values: &mut [K]) -> Result<Sheet, Refusal>
-        ensures { (image numbers result, map coords values.new) ≡ opening size count (map coords values.old) }
+        ensures { (image numbers result, map K.coords values.new) ≡ opening K.size count (map K.coords values.old) }
     {
         if values.len() < count.min(MOST_PARAMETERS) {
             return Err(Refusal::Unfit);

@@ -8,13 +8,13 @@ use Rattle.whole.proofs.Tests.{some-any}
 use Rattle.kinds.proofs.Tests.{any_more}
 use Rattle.kinds.proofs.limits.value_above.Goals as goal
 
-pub returns-then-unsigned-abs-most : goal.returns-then-unsigned-abs-most
-returns-then-unsigned-abs-most g c =
+pub returns-then-unsigned_abs-most : goal.returns-then-unsigned_abs-most
+returns-then-unsigned_abs-most g c =
     let cs = g.K.Kind.coords c.args.v in
     let k = c.loop-k.k in
     let z = g.met.K.Kind.laws.sized c.args.v in
     let fx : SFits w64 c.in-Ok.x = search rules in
-    let u = simp to_z-of_z at c.unsigned-abs.ensures.value in
+    let u = simp to_z-of_z at c.unsigned_abs.ensures.value in
     let x = ap nat_abs (read_ok cs k c.in-Ok.x c.in-Ok.ensures) in
     let p : c.args.most < nat_abs (get_or cs k (pos 0)) = omega arith in
     sym (some-any g.K.Kind.size (λ j. above c.args.most (at cs j)) k (omega arith) (lt-ltb c.args.most (nat_abs (get_or cs k (pos 0))) p))
@@ -25,7 +25,7 @@ loop-k-preserved g c =
     let k = c.loop-k.k in
     let z = g.met.K.Kind.laws.sized c.args.v in
     let fx : SFits w64 c.in-Ok.x = search rules in
-    let u = simp to_z-of_z at c.unsigned-abs.ensures.value in
+    let u = simp to_z-of_z at c.unsigned_abs.ensures.value in
     let x = ap nat_abs (read_ok cs k c.in-Ok.x c.in-Ok.ensures) in
     let p : nat_abs (get_or cs k (pos 0)) ≤ c.args.most = omega arith in
     any_more k (λ j. above c.args.most (at cs j)) c.loop-k.invariant (le-ltb c.args.most (nat_abs (get_or cs k (pos 0))) p)
