@@ -11,7 +11,7 @@ use words::Fault;
 
 // Appends a space and the value's word.
 fn put_word<V: Written>(v: V, out: &mut Vec<u8>) -> Result<(), Fault>
-    ensures { PutWords (OneWord form v) out.old.items out.new.items result }
+    ensures { PutWords (OneWord V.form v) out.old.items out.new.items result }
 {
     append_bytes(b" ", out)?;
     v.put(out)
@@ -19,7 +19,7 @@ fn put_word<V: Written>(v: V, out: &mut Vec<u8>) -> Result<(), Fault>
 
 // Appends the values' words, each behind a space.
 fn put_values<V: Written>(values: &[V], out: &mut Vec<u8>) -> Result<(), Fault>
-    ensures { PutWords (λ ws. Each form ws values.now) out.old.items out.new.items result }
+    ensures { PutWords (λ ws. Each V.form ws values.now) out.old.items out.new.items result }
 {
     for v in values {
         put_word(*v, out)?;
@@ -29,7 +29,7 @@ fn put_values<V: Written>(values: &[V], out: &mut Vec<u8>) -> Result<(), Fault>
 
 // The same for a list that has one value to a name.
 fn put_row<V: Written>(values: &[V], count: usize, out: &mut Vec<u8>) -> Result<(), Fault>
-    ensures { PutWords (λ ws. (length values.now ≡ count) × Each form ws values.now) out.old.items out.new.items result }
+    ensures { PutWords (λ ws. (length values.now ≡ count) × Each V.form ws values.now) out.old.items out.new.items result }
 {
     if values.len() != count {
         return Err(Fault::Form);
@@ -43,7 +43,7 @@ fn put_bind<V: Written>(
     count: usize,
     out: &mut Vec<u8>,
 ) -> Result<(), Fault>
-    ensures { PutWords (λ ws. Values form count ws (binds coefficients.now constant)) out.old.items out.new.items result }
+    ensures { PutWords (λ ws. Values V.form count ws (binds coefficients.now constant)) out.old.items out.new.items result }
 {
     put_row(coefficients, count, out)?;
     put_word(constant, out)
@@ -69,7 +69,7 @@ pub(crate) fn put_rest<V: Written>(
     count: usize,
     out: &mut Vec<u8>,
 ) -> Result<(), Fault>
-    ensures { PutWords (λ ws. Values form count ws (said line.now)) out.old.items out.new.items result }
+    ensures { PutWords (λ ws. Values V.form count ws (said line.now)) out.old.items out.new.items result }
 {
     match line {
         Line::Bind(coefficients, constant) => put_bind(

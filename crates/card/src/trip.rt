@@ -10,8 +10,8 @@ use words::Fault;
 
 // Bytes spell one line at most, and a line has one spelling at most.
 pub fn laws_of_lines<V: Written>() -> u8
-    ensures reading { OneReading form }
-    ensures spelling { OneSpelling form }
+    ensures reading { OneReading V.form }
+    ensures spelling { OneSpelling V.form }
 {
     0
 }
@@ -23,7 +23,7 @@ pub fn copy_line<V: Written>(
     line: &[u8],
     out: &mut [u8],
 ) -> Result<usize, Fault>
-    ensures { Copied form count line.now out.old out.new result }
+    ensures { Copied V.form count line.now out.old out.new result }
 {
     let read: Line<V> = read_line(heap, count, line)?;
     write_line(heap, count, &read, out)
@@ -36,7 +36,7 @@ pub fn reread_line<V: Written>(
     line: &Line<V>,
     space: &mut [u8],
 ) -> Result<Line<V>, Fault>
-    ensures { Reread form count (said line.now) space.old space.new result }
+    ensures { Reread V.form count (said line.now) space.old space.new result }
 {
     let size = write_line(heap, count, line, space)?;
     read_line(heap, count, &space[0..size])

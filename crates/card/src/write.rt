@@ -10,7 +10,7 @@ use words::{Fault, place_line};
 
 // The bytes of a line, however many.
 fn line_bytes<V: Written>(heap: Global, count: usize, line: &Line<V>) -> Result<Vec<u8>, Fault>
-    ensures { LineBytes form count (said line.now) result }
+    ensures { LineBytes V.form count (said line.now) result }
 {
     let mut text = Vec::new(heap);
     let verb = verb_of(line);
@@ -27,7 +27,7 @@ pub fn write_line<V: Written>(
     line: &Line<V>,
     out: &mut [u8],
 ) -> Result<usize, Fault>
-    ensures { LineWritten form count (said line.now) out.old out.new result }
+    ensures { LineWritten V.form count (said line.now) out.old out.new result }
 {
     let text = line_bytes(heap, count, line)?;
     place_line(text.as_slice(), out)

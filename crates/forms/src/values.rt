@@ -8,7 +8,7 @@ use words::{Fault, Reader};
 
 // The value that the next word writes.
 pub fn read_value<V: Written>(reader: &mut Reader<'_>) -> Option<V>
-    ensures { OneRead form (left reader.old) (left reader.new) result }
+    ensures { OneRead V.form (left reader.old) (left reader.new) result }
 {
     let Some(word) = reader.next() else {
         return None;
@@ -22,7 +22,7 @@ pub fn read_values<V: Written>(
     count: usize,
     reader: &mut Reader<'_>,
 ) -> Result<Vec<V>, Fault>
-    ensures { RowRead form count (left reader.old) (left reader.new) result }
+    ensures { RowRead V.form count (left reader.old) (left reader.new) result }
 {
     let mut values = Vec::new(heap);
     for i in 0..count {

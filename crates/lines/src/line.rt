@@ -23,7 +23,7 @@ fn read_bind<V: Written>(
     count: usize,
     reader: &mut Reader<'_>,
 ) -> Result<Line<V>, Fault>
-    ensures { ReadBy form count Verb.Bind (left reader.old) result }
+    ensures { ReadBy V.form count Verb.Bind (left reader.old) result }
 {
     let coefficients = read_values(heap, count, reader)?;
     let Some(constant) = read_value(reader) else {
@@ -36,7 +36,7 @@ fn read_bind<V: Written>(
 }
 
 fn read_unbind<V: Written>(count: usize, reader: &mut Reader<'_>) -> Result<Line<V>, Fault>
-    ensures { ReadBy form count Verb.Unbind (left reader.old) result }
+    ensures { ReadBy V.form count Verb.Unbind (left reader.old) result }
 {
     let Some(number) = read_value(reader) else {
         return Err(Fault::Form);
@@ -52,7 +52,7 @@ fn read_grip<V: Written>(
     count: usize,
     reader: &mut Reader<'_>,
 ) -> Result<Line<V>, Fault>
-    ensures { ReadBy form count Verb.Grip (left reader.old) result }
+    ensures { ReadBy V.form count Verb.Grip (left reader.old) result }
 {
     let cells = read_values(heap, count, reader)?;
     if !reader.at_end() {
@@ -66,7 +66,7 @@ fn read_pull<V: Written>(
     count: usize,
     reader: &mut Reader<'_>,
 ) -> Result<Line<V>, Fault>
-    ensures { ReadBy form count Verb.Pull (left reader.old) result }
+    ensures { ReadBy V.form count Verb.Pull (left reader.old) result }
 {
     let wishes = read_values(heap, count, reader)?;
     if !reader.at_end() {
@@ -76,7 +76,7 @@ fn read_pull<V: Written>(
 }
 
 fn read_keep<V: Written>(count: usize, reader: &Reader<'_>) -> Result<Line<V>, Fault>
-    ensures { ReadBy form count Verb.Keep (left reader.now) result }
+    ensures { ReadBy V.form count Verb.Keep (left reader.now) result }
 {
     if !reader.at_end() {
         return Err(Fault::Form);
@@ -85,7 +85,7 @@ fn read_keep<V: Written>(count: usize, reader: &Reader<'_>) -> Result<Line<V>, F
 }
 
 fn read_drop<V: Written>(count: usize, reader: &Reader<'_>) -> Result<Line<V>, Fault>
-    ensures { ReadBy form count Verb.Drop (left reader.now) result }
+    ensures { ReadBy V.form count Verb.Drop (left reader.now) result }
 {
     if !reader.at_end() {
         return Err(Fault::Form);
@@ -100,7 +100,7 @@ fn read_rest<V: Written>(
     verb: Verb,
     reader: &mut Reader<'_>,
 ) -> Result<Line<V>, Fault>
-    ensures { ReadBy form count verb (left reader.old) result }
+    ensures { ReadBy V.form count verb (left reader.old) result }
 {
     match verb {
         Verb::Bind => read_bind(heap, count, reader),
@@ -114,7 +114,7 @@ fn read_rest<V: Written>(
 
 // The line that the bytes spell, for a sheet of `count` names.
 pub fn read_line<V: Written>(heap: Global, count: usize, line: &[u8]) -> Result<Line<V>, Fault>
-    ensures { LineRead form count line.now result }
+    ensures { LineRead V.form count line.now result }
 {
     let Some(text) = line_text(line) else {
         return Err(Fault::Form);

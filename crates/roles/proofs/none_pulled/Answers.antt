@@ -3,9 +3,9 @@ use Rattle.whole.proofs.Tests.{some-any, none_any}
 use Rattle.rules.specs.Gripping.{role, is_pulled}
 use Rattle.roles.proofs.none_pulled.Goals as goal
 
-pub returns-then-is-pulled : goal.returns-then-is-pulled
-returns-then-is-pulled c =
-    ap not (sym (some-any (length c.args.roles.now) (λ s. is_pulled (role c.args.roles.now s)) c.loop-role.role-index c.loop-role-test.true (sym c.if-is-pulled.ensures)))
+pub returns-then-is_pulled : goal.returns-then-is_pulled
+returns-then-is_pulled c =
+    ap not (sym (some-any (length c.args.roles.now) (λ s. is_pulled (role c.args.roles.now s)) c.loop-role.role-index c.loop-role-test.true (sym c.if-is_pulled.ensures)))
 
 pub returns : goal.returns
 returns c =

@@ -10,8 +10,8 @@ pub loop-j-preserved : goal.loop-j-preserved
 loop-j-preserved c =
     let f : ℕ → ℤ = gram c.args.n (at c.args.shares.now) (coord c.args.rows.now) c.args.i in
     let few = c.requires.sizes.1.0 in
-    let fr : SFits w64 c.weighted-sum.result = search rules in
-    let back = to_z-of_z w64 c.weighted-sum.result fr ∙ c.weighted-sum.ensures in
+    let fr : SFits w64 c.weighted_sum.result = search rules in
+    let back = to_z-of_z w64 c.weighted_sum.result fr ∙ c.weighted_sum.ensures in
     ap (λ (x : ℤ). set c.loop-j.row.cells c.loop-j.j x) back
     ∙ put_more (tab c.loop-j.j f) (replicate 24 (pos 0)) c.loop-j.row.cells c.loop-j.j c.loop-j.invariant (tab-length c.loop-j.j f) (omega arith) (pos 0) (f c.loop-j.j)
     ∙ ap (λ l. l ++ drop (c.loop-j.j + 1) (replicate 24 (pos 0))) (sym (tab_more c.loop-j.j f))

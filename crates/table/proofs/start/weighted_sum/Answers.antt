@@ -21,8 +21,8 @@ module _ (c : goal.After-weighted-sum) where
       let a = nat_abs-+ c.loop-s.sum c.weighted-sum.result in
       omega arith
 
-pub overflow-add-sum : goal.overflow-add-sum
-overflow-add-sum c =
+pub overflow_add-sum : goal.overflow_add-sum
+overflow_add-sum c =
     let fr : SFits w64 c.weighted-sum.result = search rules in
     let b = c.loop-s.sum-is in
     let t = size c in

@@ -14,4 +14,4 @@ returns-then-not-short c =
 pub returns : goal.returns
 returns c =
     let same = to_z-of_z w64 c.args.self c.ranges.self in
-    put_number c.append-number.result c.args.self _ (vec_items c.args.out.now) (vec_items c.append-number.new.out) same (subst Short same (c.short.ensures.0 c.if-not-short.false)) c.append-number.ensures
+    put_number c.append_number.result c.args.self _ (vec_items c.args.out.now) (vec_items c.append_number.new.out) same (subst Short same (c.short.ensures.0 c.if-not-short.false)) c.append_number.ensures

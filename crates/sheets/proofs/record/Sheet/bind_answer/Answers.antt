@@ -21,7 +21,7 @@ untrue-requires g c =
       few = s.few;
       room = t.values_long;
       long = c.if-coefficients-self.false;
-      small = sym c.if-bad-coefficients.ensures;
+      small = sym c.if-bad_coefficients.ensures;
       values = ap (λ (d : ℤ). unfit_values size s.count d (map f vs)) read ∙ (or_parts (unfit_values size s.count s.denominator (map f vs)) _ fine).0;
-      constant = sym c.if-bad-constant.ensures;
+      constant = sym c.if-bad_constant.ensures;
     }

@@ -15,5 +15,5 @@ returns g c =
     let n = length-map c.args.values.now g.K.Kind.coords in
     let a : ltb (length (map g.K.Kind.coords c.args.values.now)) (min c.args.count 48) ≡ false = le-ltb _ _ (omega arith) in
     let b = le-ltb _ _ c.if-count-lt1.false in
-    let d = le-ltb _ _ c.if-count-gt-MOST-PARAMETERS.false in
+    let d = le-ltb _ _ c.if-count-gt-MOST_PARAMETERS.false in
     rw (a, b, d, c.clear.ensures)

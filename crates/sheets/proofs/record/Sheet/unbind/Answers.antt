@@ -9,14 +9,14 @@ use Rattle.sheets.specs.Shown.{numbers}
 use Rattle.sheets.proofs.Fit.{long, map-paste}
 use Rattle.sheets.proofs.record.Sheet.unbind.Goals as goal
 
-pub copy-within-requires-2 : goal.copy-within-requires-2
-copy-within-requires-2 g c =
+pub copy_within-requires-2 : goal.copy_within-requires-2
+copy_within-requires-2 g c =
     let t = long g.K.Kind.coords g.K.Kind.size (numbers c.args.self.now) c.args.values.now c.args.relations.now c.args.constants.now (sym c.if-unfit.ensures) in
     let low = c.if-number-lt0.false in
     let high = c.if-number-b.false in
     let bound = to_z_pos w64 c.args.self.now.bound (omega (arith, c.args.self.now.room)) in
     let below : nat_abs (to_z w64 (of_z w64 c.args.number)) < c.args.self.now.bound = omega (arith, ints, bound) in
-    record { start-le-end = omega (arith, below); in_bounds = omega (arith, t.constants_long, c.args.self.now.room); dest-in-bounds = omega (arith, below, t.constants_long, c.args.self.now.room); not-exhausted = tt }
+    record { start_le_end = omega (arith, below); in_bounds = omega (arith, t.constants_long, c.args.self.now.room); dest_in_bounds = omega (arith, below, t.constants_long, c.args.self.now.room); not_exhausted = tt }
 
 -- a number that is not at least k is below it
 below : (x : ℤ) (k : ℕ) → le_z (pos k) x ≡ false → lt_z x (pos k) ≡ true
@@ -40,7 +40,7 @@ returns g c =
     let bound = to_z_pos w64 b (omega (arith, c.args.self.now.room)) in
     let low : lt_z n (pos 0) ≡ false = ap (λ (z : ℤ). lt_z z (pos 0)) (sym read) ∙ c.if-number-lt0.false in
     let high : lt_z n (pos b) ≡ true = below n b (ap₂ le_z (sym bound) (sym read) ∙ c.if-number-b.false) in
-    let relations = c.copy-within.ensures.after ∙ ap (λ (z : ℤ). closed b (nat_abs z) c.args.relations.now) read in
-    let constants = ap (map f) (c.copy-within-2.ensures.after ∙ ap (λ (z : ℤ). closed b (nat_abs z) qs) read)
+    let relations = c.copy_within.ensures.after ∙ ap (λ (z : ℤ). closed b (nat_abs z) c.args.relations.now) read in
+    let constants = ap (map f) (c.copy_within-2.ensures.after ∙ ap (λ (z : ℤ). closed b (nat_abs z) qs) read)
     ∙ map-paste f qs (nat_abs n) (drop (nat_abs n + 1) qs) (b - (nat_abs n + 1)) ∙ ap (λ (l : List (List ℤ)). paste (map f qs) (nat_abs n) l (b - (nat_abs n + 1))) (sym (drop-map f (nat_abs n + 1) qs)) in
     rw (fine, low, high, relations, constants)

@@ -14,5 +14,5 @@ returns g c =
     let cs = c.args.coefficients.now in
     let q = f c.args.q in
     let read = to_z-of_z w64 c.args.d c.ranges.d in
-    c.value-above.ensures
+    c.value_above.ensures
     ∙ any_ext g.K.Kind.size _ _ (λ k _. gap_differs c.args.n c.args.d vs cs q (at (f c.gap.result) k) k (c.gap.ensures k ∙ ap (λ (d : ℤ). gap_at c.args.n d vs cs q k) read))

@@ -21,8 +21,8 @@ returns g c =
     let long = length-map vs f in
     let read = to_z-of_z w64 c.args.d c.ranges.d in
     let enough = le-ltb _ _ c.if-values-n.false in
-    let fine = ap bad_denominator (sym read) ∙ sym c.if-bad-denominator.ensures in
+    let fine = ap bad_denominator (sym read) ∙ sym c.if-bad_denominator.ensures in
     let reached = c.reach.ensures ∙ ap (λ (z : ℤ). 47560 * nat_abs z) read in
-    let tested = c.values-above.ensures ∙ front_above f size c.args.n c.reach.result vs c.if-values-n.false
+    let tested = c.values_above.ensures ∙ front_above f size c.args.n c.reach.result vs c.if-values-n.false
     ∙ ap (λ (k : ℕ). any c.args.n (λ s. any size (λ x. above k (coord (map f vs) s x)))) reached in
     rw (long, enough, fine) tested

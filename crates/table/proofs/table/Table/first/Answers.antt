@@ -10,9 +10,9 @@ loop-i-preserved c =
     let size = c.loop-i.invariant.1 in
     let v = at c.args.shares.now in
     let R = coord c.args.rows.now in (
-      first_more c.args.n c.args.m v R c.loop-i.table c.loop-i.i c.first-row.result (omega arith) c.loop-i.invariant.0
-          (first_cell c.args.m c.loop-i.i (gram c.args.n v R c.loop-i.i) few c.loop-i-test.true c.first-row.result.cells c.first-row.ensures),
-      length-set c.loop-i.table.rows c.loop-i.i c.first-row.result ∙ size,
+      first_more c.args.n c.args.m v R c.loop-i.table c.loop-i.i c.first_row.result (omega arith) c.loop-i.invariant.0
+          (first_cell c.args.m c.loop-i.i (gram c.args.n v R c.loop-i.i) few c.loop-i-test.true c.first_row.result.cells c.first_row.ensures),
+      length-set c.loop-i.table.rows c.loop-i.i c.first_row.result ∙ size,
     )
 
 pub returns : goal.returns
