@@ -9,10 +9,10 @@ returns-then-names-eq0 c =
     let size = length-texts c.args.names.now in
     (λ e. absurd (false≢true e), λ ns. absurd (⊎_elim (λ l. omega (arith, ns.some)) (λ l. omega (arith, ns.few, l.1)) c.then-names-eq0.either))
 
-pub returns-then-not-is-name : goal.returns-then-not-is-name
-returns-then-not-is-name c =
+pub returns-then-not-is_name : goal.returns-then-not-is_name
+returns-then-not-is_name c =
     let size = length-texts c.args.names.now in
-    (λ e. absurd (false≢true e), λ ns. c.if-not-is-name.ensures.1 (subst Named (texts-at c.args.names.now c.loop-i.i _ c.loop-i-test.true) (ns.named c.loop-i.i (omega arith))))
+    (λ e. absurd (false≢true e), λ ns. c.if-not-is_name.ensures.1 (subst Named (texts-at c.args.names.now c.loop-i.i _ c.loop-i-test.true) (ns.named c.loop-i.i (omega arith))))
 
 pub returns-then-holds : goal.returns-then-holds
 returns-then-holds c =
@@ -27,7 +27,7 @@ pub loop-i-preserved : goal.loop-i-preserved
 loop-i-preserved c =
     let size = length-texts c.args.names.now in
     let here = texts-at c.args.names.now c.loop-i.i _ c.loop-i-test.true in
-    good_more (texts c.args.names.now) c.loop-i.i (omega arith) c.loop-i.invariant (subst Named (sym here) (c.if-not-is-name.ensures.0 refl))
+    good_more (texts c.args.names.now) c.loop-i.i (omega arith) c.loop-i.invariant (subst Named (sym here) (c.if-not-is_name.ensures.0 refl))
     (λ h. false≢true (c.if-holds.ensures.1 (h.0, omega (arith, h.1), h.2, h.3 ∙ here)))
 
 pub returns : goal.returns

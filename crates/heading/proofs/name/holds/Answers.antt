@@ -7,9 +7,9 @@ use Rattle.heading.proofs.name.holds.Goals as goal
 pub returns-then-i-count : goal.returns-then-i-count
 returns-then-i-count c = has_not (texts c.args.names.now) c.args.count c.loop-i.i c.args.name.now c.loop-i.invariant (inl c.if-i-count.true)
 
-pub returns-then-same-bytes : goal.returns-then-same-bytes
-returns-then-same-bytes c = (
-  λ _. (c.loop-i.i, c.if-i-count.false, omega (arith, length-texts c.args.names.now), texts-at c.args.names.now c.loop-i.i _ c.loop-i-test.true ∙ c.if-same-bytes.ensures.0 refl),
+pub returns-then-same_bytes : goal.returns-then-same_bytes
+returns-then-same_bytes c = (
+  λ _. (c.loop-i.i, c.if-i-count.false, omega (arith, length-texts c.args.names.now), texts-at c.args.names.now c.loop-i.i _ c.loop-i-test.true ∙ c.if-same_bytes.ensures.0 refl),
   λ _. refl,
 )
 
@@ -19,4 +19,4 @@ returns c = has_not (texts c.args.names.now) c.args.count c.loop-i.i c.args.name
 pub loop-i-preserved : goal.loop-i-preserved
 loop-i-preserved c =
     below_more _ _ c.loop-i.invariant
-    (λ e. false≢true (c.if-same-bytes.ensures.1 (sym (texts-at c.args.names.now c.loop-i.i _ c.loop-i-test.true) ∙ e)))
+    (λ e. false≢true (c.if-same_bytes.ensures.1 (sym (texts-at c.args.names.now c.loop-i.i _ c.loop-i-test.true) ∙ e)))

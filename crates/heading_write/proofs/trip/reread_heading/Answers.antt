@@ -4,4 +4,4 @@ use Rattle.heading_write.proofs.Heads.{reread}
 use Rattle.heading_write.proofs.trip.reread_heading.Goals as goal
 
 pub returns : goal.returns
-returns c = reread c.args.heading.now.kind (names_of c.args.heading.now) c.args.space.now c.write-heading.new.out c.in-ok-size.size _ c.read-heading.result c.in-ok-size.ensures c.read-heading.ensures (omega arith)
+returns c = reread c.args.heading.now.kind (names_of c.args.heading.now) c.args.space.now c.write_heading.new.out c.in_ok-size.size _ c.read_heading.result c.in_ok-size.ensures c.read_heading.ensures (omega arith)

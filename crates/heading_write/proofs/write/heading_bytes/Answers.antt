@@ -5,5 +5,5 @@ use Rattle.heading_write.proofs.write.heading_bytes.Goals as goal
 
 pub returns : goal.returns
 returns c =
-    heading_joined c.args.kind (texts c.args.names.now) (vec_items c.new-text.result) (vec_items c.put.new.out) (vec_items c.put-names.new.out) (vec_items c.append-bytes.new.out)
-    c.new-text.ensures.items c.in-ok-put.ensures c.in-ok-put-names.ensures c.in-ok-append-bytes.ensures
+    heading_joined c.args.kind (texts c.args.names.now) (vec_items c.new-text.result) (vec_items c.put.new.out) (vec_items c.put_names.new.out) (vec_items c.append_bytes.new.out)
+    c.new-text.ensures.items c.in_ok-put.ensures c.in_ok-put_names.ensures c.in_ok-append_bytes.ensures

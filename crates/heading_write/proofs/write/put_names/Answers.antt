@@ -10,8 +10,8 @@ pub loop-name-preserved : goal.loop-name-preserved
 loop-name-preserved c =
     let names = texts c.args.names.now in
     let size = length-texts c.args.names.now in
-    spaced_more names c.loop-name.name-index _ (vec_items c.args.out.now) (vec_items c.loop-name.out) (vec_items c.append-bytes.new.out) (vec_items c.append-bytes-in-loop-name.new.out) _ (omega arith)
-    (texts-at c.args.names.now c.loop-name.name-index _ c.loop-name-test.true) c.loop-name.invariant c.in-ok-append-bytes.ensures (omega arith) c.in-ok-append-bytes-2.ensures
+    spaced_more names c.loop-name.name-index _ (vec_items c.args.out.now) (vec_items c.loop-name.out) (vec_items c.append_bytes.new.out) (vec_items c.append_bytes-in-loop-name.new.out) _ (omega arith)
+    (texts-at c.args.names.now c.loop-name.name-index _ c.loop-name-test.true) c.loop-name.invariant c.in_ok-append_bytes.ensures (omega arith) c.in_ok-append_bytes-2.ensures
 
 pub returns : goal.returns
 returns c =

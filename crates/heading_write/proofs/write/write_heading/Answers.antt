@@ -8,7 +8,7 @@ use Rattle.heading_write.proofs.write.write_heading.Goals as goal
 pub returns : goal.returns
 returns c =
     let kind = c.args.heading.now.kind in
-    let same = ap texts c.as-slice-names.ensures.value in
-    let good : Names (texts c.as-slice-names.result.now) = search rules in
-    written kind (names_of c.args.heading.now) c.as-slice.result.now c.args.out.now c.place-line.new.out c.place-line.result
-    (subst Names same good) (c.as-slice.ensures.value ∙ c.in-ok-text.ensures ∙ ap (λ ws. joined_by 32 (kind_word kind ∷ ws) ++ 10 ∷ []) same) c.place-line.ensures
+    let same = ap texts c.as_slice-names.ensures.value in
+    let good : Names (texts c.as_slice-names.result.now) = search rules in
+    written kind (names_of c.args.heading.now) c.as_slice.result.now c.args.out.now c.place_line.new.out c.place_line.result
+    (subst Names same good) (c.as_slice.ensures.value ∙ c.in_ok-text.ensures ∙ ap (λ ws. joined_by 32 (kind_word kind ∷ ws) ++ 10 ∷ []) same) c.place_line.ensures

@@ -10,11 +10,11 @@ pub loop-s-preserved : goal.loop-s-preserved
 loop-s-preserved c =
     let long = c.loop-s.invariant.1 in
     let room : c.loop-s.s < length c.loop-s.all = omega arith in
-    let f : SFits w64 c.share-of.result = search rules in
-    let back = to_z-of_z w64 c.share-of.result f in (
+    let f : SFits w64 c.share_of.result = search rules in
+    let back = to_z-of_z w64 c.share_of.result f in (
       ap (λ (x : ℤ). take (c.loop-s.s + 1) (set c.loop-s.all c.loop-s.s x)) back
-          ∙ take_more_set c.loop-s.all c.loop-s.s c.share-of.result room
-          ∙ (λ i. c.loop-s.invariant.0 i ++ c.share-of.ensures i ∷ [])
+          ∙ take_more_set c.loop-s.all c.loop-s.s c.share_of.result room
+          ∙ (λ i. c.loop-s.invariant.0 i ++ c.share_of.ensures i ∷ [])
           ∙ sym (tab_more c.loop-s.s (λ (s : ℕ). share (role c.args.roles.now s))),
       length-set c.loop-s.all c.loop-s.s _ ∙ long,
     )

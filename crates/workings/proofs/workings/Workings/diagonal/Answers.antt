@@ -13,5 +13,5 @@ returns-then-i-self c =
 pub returns-else-i-self : goal.returns-else-i-self
 returns-else-i-self c = record { value = sym (no_entry c.args.self.now.m c.args.self.now.table c.args.i c.args.i c.if-i-self.false); most = omega arith }
 
-pub overflow-cast-result : goal.overflow-cast-result
-overflow-cast-result c = casts _ (c.args.self.now.within c.args.i c.args.i c.if-i-self.true (let h = c.if-i-self.true in omega arith)) (c.args.self.now.upright c.args.i c.if-i-self.true)
+pub overflow_cast-result : goal.overflow_cast-result
+overflow_cast-result c = casts _ (c.args.self.now.within c.args.i c.args.i c.if-i-self.true (let h = c.if-i-self.true in omega arith)) (c.args.self.now.upright c.args.i c.if-i-self.true)
