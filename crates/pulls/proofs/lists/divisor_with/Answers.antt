@@ -14,7 +14,7 @@ loop-k-preserved g c =
     let e = fold_more (λ g x. gcd g (nat_abs x)) c.args.a us c.loop-k.k (pos 0) h in
     let fx : SFits w64 c.read.result = search rules in
     let t = to_z-of_z w64 c.read.result fx in
-    c.common-divisor-g.ensures ∙ ap₂ gcd c.loop-k.invariant (c.unsigned-abs.ensures.value ∙ ap nat_abs (t ∙ c.read.ensures)) ∙ sym e
+    c.common_divisor-g.ensures ∙ ap₂ gcd c.loop-k.invariant (c.unsigned_abs.ensures.value ∙ ap nat_abs (t ∙ c.read.ensures)) ∙ sym e
 
 pub returns : goal.returns
 returns g c =

@@ -13,8 +13,8 @@ use Rattle.pulls.proofs.Refusing.{guard_ok, guard_err, not_made}
 use Rattle.pulls.proofs.multipliers.multiply.Given as given
 use Rattle.pulls.proofs.multipliers.multiply.Goals as goal
 
-pub returns-in-err-sums : goal.returns-in-err-sums
-returns-in-err-sums g c =
+pub returns-in_err-sums : goal.returns-in_err-sums
+returns-in_err-sums g c =
     let f = g.K.Kind.coords in
     let size = g.K.Kind.size in
     let i = c.loop-i.i in
@@ -25,12 +25,12 @@ returns-in-err-sums g c =
     let n : length (all_multiplied size c.args.l ps us) ≡ length ps = tab-length (length ps) _ in
     let now = ap f c.index-sums-i.is ∙ sym (get_or-map f c.loop-i.sums i c.index-sums-i.result [] (omega (arith, c.loop-i-test.true, c.requires.many, c.loop-i.auto.sums)))
     ∙ ap (λ (x : List (List ℤ)). get_or x i []) c.loop-i.invariant.0 ∙ written_past i (all_multiplied size c.args.l ps us) us [] i (omega (arith, c.loop-i-test.true)) (omega arith) in
-    let e : c.from-residual.result ≡ Err c.in-err-sums.field-0.0 = search rules in
-    let is = sym (ap (image f) c.in-err-sums.was) ∙ c.multiplier.ensures ∙ ap (λ (u : List ℤ). guard (strays size c.args.l (get_or ps i 0) u) TooFine (Ok (multiplied size c.args.l (get_or ps i 0) u))) now in
-    let r = guard_err _ TooFine _ c.in-err-sums.field-0.0 is in
+    let e : c.from_residual.result ≡ Err c.in_err-sums.field-0.0 = search rules in
+    let is = sym (ap (image f) c.in_err-sums.was) ∙ c.multiplier.ensures ∙ ap (λ (u : List ℤ). guard (strays size c.args.l (get_or ps i 0) u) TooFine (Ok (multiplied size c.args.l (get_or ps i 0) u))) now in
+    let r = guard_err _ TooFine _ c.in_err-sums.field-0.0 is in
     record {
       answer = e ∙ ap Err r.0 ∙ sym (ap (λ (b : Bool). guard b TooFine (Ok tt)) (some-any (length ps) (λ k. strays size c.args.l (get_or ps k 0) (get_or us k [])) i c.loop-i-test.true r.1));
-      list = not_made c.from-residual.result _ e _;
+      list = not_made c.from_residual.result _ e _;
     }
 
 pub loop-i-preserved : goal.loop-i-preserved
@@ -45,7 +45,7 @@ loop-i-preserved g c =
     let n : length (all_multiplied size c.args.l ps us) ≡ length ps = tab-length (length ps) _ in
     let now = ap f c.index-sums-i.is ∙ sym (get_or-map f c.loop-i.sums i c.index-sums-i.result [] (omega (arith, c.loop-i-test.true, c.requires.many, c.loop-i.auto.sums)))
     ∙ ap (λ (x : List (List ℤ)). get_or x i []) c.loop-i.invariant.0 ∙ written_past i (all_multiplied size c.args.l ps us) us [] i (omega (arith, c.loop-i-test.true)) (omega arith) in
-    let is = sym (ap (image f) c.in-ok-sums.was) ∙ c.multiplier.ensures ∙ ap (λ (u : List ℤ). guard (strays size c.args.l (get_or ps i 0) u) TooFine (Ok (multiplied size c.args.l (get_or ps i 0) u))) now in
+    let is = sym (ap (image f) c.in_ok-sums.was) ∙ c.multiplier.ensures ∙ ap (λ (u : List ℤ). guard (strays size c.args.l (get_or ps i 0) u) TooFine (Ok (multiplied size c.args.l (get_or ps i 0) u))) now in
     let r = guard_ok _ TooFine _ _ is in (
       written_more f xs c.loop-i.sums (all_multiplied size c.args.l ps us) i _ (omega (arith, c.loop-i-test.true)) (omega (arith, c.loop-i-test.true, c.requires.many))
           (r.0 ∙ sym (get_or-tab (length ps) (λ k. multiplied size c.args.l (get_or ps k 0) (get_or us k [])) [] i c.loop-i-test.true)) c.loop-i.invariant.0,

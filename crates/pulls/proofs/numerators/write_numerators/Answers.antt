@@ -29,11 +29,11 @@ module _ (l : ℕ) (d : ℤ) (few : l ≤ 2147483647) (f : SFits w64 d) (h : nat
   product : to_z w64 (of_z w64 (to_z w64 l *ℤ to_z w64 (of_z w64 d))) ≡ pos l *ℤ d
   product = to_z-of_z w64 (to_z w64 l *ℤ to_z w64 (of_z w64 d)) fitting ∙ ap₂ ◌*ℤ◌ first second
 
-pub overflow-mul-e : goal.overflow-mul-e
-overflow-mul-e g c = fitting c.args.l c.args.d c.requires.multiple c.ranges.d (fit_values g.K.Kind.size (length c.args.roles.now) c.args.d (map g.K.Kind.coords c.args.values.now) c.requires.values).high
+pub overflow_mul-e : goal.overflow_mul-e
+overflow_mul-e g c = fitting c.args.l c.args.d c.requires.multiple c.ranges.d (fit_values g.K.Kind.size (length c.args.roles.now) c.args.d (map g.K.Kind.coords c.args.values.now) c.requires.values).high
 
-pub offset-bounds-proposal-s : goal.offset-bounds-proposal-s
-offset-bounds-proposal-s g c = let h : c.loop-s.s < length c.args.proposal.now = omega (arith, c.loop-s-test.true, c.requires.proposed) in search rules
+pub offset_bounds-proposal-s : goal.offset_bounds-proposal-s
+offset_bounds-proposal-s g c = let h : c.loop-s.s < length c.args.proposal.now = omega (arith, c.loop-s-test.true, c.requires.proposed) in search rules
 
 pub shift-moved-requires : goal.shift-moved-requires
 shift-moved-requires g c = record {

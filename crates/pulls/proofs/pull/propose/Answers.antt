@@ -21,8 +21,8 @@ use Rattle.pulls.proofs.Numbered.{numbered, rows_are}
 use Rattle.pulls.proofs.Calling.{unfit-first, unfit_rows, begins, same_count, fit, room, proposal_long, wishes_long, fine_rows, exactly-by}
 use Rattle.pulls.proofs.pull.propose.Goals as goal
 
-pub returns-then-unfit-lists : goal.returns-then-unfit-lists
-returns-then-unfit-lists g c =
+pub returns-then-unfit_lists : goal.returns-then-unfit_lists
+returns-then-unfit_lists g c =
     let f = g.K.Kind.coords in
     let size = g.K.Kind.size in
     let s = numbers c.args.sheet.now in
@@ -36,7 +36,7 @@ returns-then-unfit-lists g c =
     let a = length-map c.args.wishes.now f in
     let b = length-map c.args.proposal.now f in
     let k = length-map c.args.working.now f in
-    unfit-first size s vs rs qs w ws ps us _ _ _ a b k (sym c.if-unfit-lists.ensures)
+    unfit-first size s vs rs qs w ws ps us _ _ _ a b k (sym c.if-unfit_lists.ensures)
 
 pub returns-then-counted-m : goal.returns-then-counted-m
 returns-then-counted-m g c =
@@ -53,7 +53,7 @@ returns-then-counted-m g c =
     let a = length-map c.args.wishes.now f in
     let b = length-map c.args.proposal.now f in
     let k = length-map c.args.working.now f in
-    let fine = sym c.if-unfit-lists.ensures in
+    let fine = sym c.if-unfit_lists.ensures in
     let count = same_count size s vs rs qs w ws ps us _ _ _ a b k fine in
     let fits = fit size s vs rs qs w ws ps us _ _ _ a b k fine in
     let long = long_lists size s vs rs qs fits in
@@ -64,7 +64,7 @@ returns-then-counted-m g c =
     let these = numbered c.roles.result.now W rs c.bound.result B c.roles.ensures.value c.bound.ensures (omega (arith, few, long.relations_long)) in
     let many : length W ≡ s.count = sym (ap length c.roles.ensures.value) ∙ c.roles.ensures.long ∙ count in
     let bonds-are = counted-chosen s.count W s rs qs many refl in
-    let M : c.counted-relations-counted.result.m ≡ length P = c.counted-relations-counted.ensures.m ∙ ap length these in
+    let M : c.counted_relations-counted.result.m ≡ length P = c.counted_relations-counted.ensures.m ∙ ap length these in
     let L : length (counted s.count W (bonds s rs qs)) ≡ length P = ap length bonds-are ∙ many-chosen s.count rs qs P in
     unfit_rows size s vs rs qs w ws ps us _ _ _ a b k fine (λ e. c.if-counted-m.true (M ∙ sym L ∙ sym e ∙ sym c.m-m.ensures.value))
 
@@ -83,7 +83,7 @@ pull-requires g c =
     let a = length-map c.args.wishes.now f in
     let b = length-map c.args.proposal.now f in
     let k = length-map c.args.working.now f in
-    let fine = sym c.if-unfit-lists.ensures in
+    let fine = sym c.if-unfit_lists.ensures in
     let count = same_count size s vs rs qs w ws ps us _ _ _ a b k fine in
     let fits = fit size s vs rs qs w ws ps us _ _ _ a b k fine in
     let long = long_lists size s vs rs qs fits in
@@ -94,10 +94,10 @@ pull-requires g c =
     let these = numbered c.roles.result.now W rs c.bound.result B c.roles.ensures.value c.bound.ensures (omega (arith, few, long.relations_long)) in
     let many : length W ≡ s.count = sym (ap length c.roles.ensures.value) ∙ c.roles.ensures.long ∙ count in
     let bonds-are = counted-chosen s.count W s rs qs many refl in
-    let M : c.counted-relations-counted.result.m ≡ length P = c.counted-relations-counted.ensures.m ∙ ap length these in
+    let M : c.counted_relations-counted.result.m ≡ length P = c.counted_relations-counted.ensures.m ∙ ap length these in
     let L : length (counted s.count W (bonds s rs qs)) ≡ length P = ap length bonds-are ∙ many-chosen s.count rs qs P in
-    let rows = rows_are P c.counted-relations-counted.result.rows c.counted-relations-counted.result.m c.m-m.result M (sym c.if-counted-m.false) c.m-m.ensures.most
-    (c.counted-relations-counted.ensures.rows ∙ ap (λ (x : List ℕ). written (min c.counted-relations-counted.result.m 12) x (replicate 12 0)) these) in
+    let rows = rows_are P c.counted_relations-counted.result.rows c.counted_relations-counted.result.m c.m-m.result M (sym c.if-counted-m.false) c.m-m.ensures.most
+    (c.counted_relations-counted.ensures.rows ∙ ap (λ (x : List ℕ). written (min c.counted_relations-counted.result.m 12) x (replicate 12 0)) these) in
     let D : SFits w64 c.args.sheet.now.denominator = search rules in
     let d = to_z-of_z w64 c.args.sheet.now.denominator D in
     let n = c.count-n.ensures.value in
@@ -127,7 +127,7 @@ returns g c =
     let a = length-map c.args.wishes.now f in
     let b = length-map c.args.proposal.now f in
     let k = length-map c.args.working.now f in
-    let fine = sym c.if-unfit-lists.ensures in
+    let fine = sym c.if-unfit_lists.ensures in
     let count = same_count size s vs rs qs w ws ps us _ _ _ a b k fine in
     let fits = fit size s vs rs qs w ws ps us _ _ _ a b k fine in
     let long = long_lists size s vs rs qs fits in
@@ -138,10 +138,10 @@ returns g c =
     let these = numbered c.roles.result.now W rs c.bound.result B c.roles.ensures.value c.bound.ensures (omega (arith, few, long.relations_long)) in
     let many : length W ≡ s.count = sym (ap length c.roles.ensures.value) ∙ c.roles.ensures.long ∙ count in
     let bonds-are = counted-chosen s.count W s rs qs many refl in
-    let M : c.counted-relations-counted.result.m ≡ length P = c.counted-relations-counted.ensures.m ∙ ap length these in
+    let M : c.counted_relations-counted.result.m ≡ length P = c.counted_relations-counted.ensures.m ∙ ap length these in
     let L : length (counted s.count W (bonds s rs qs)) ≡ length P = ap length bonds-are ∙ many-chosen s.count rs qs P in
-    let rows = rows_are P c.counted-relations-counted.result.rows c.counted-relations-counted.result.m c.m-m.result M (sym c.if-counted-m.false) c.m-m.ensures.most
-    (c.counted-relations-counted.ensures.rows ∙ ap (λ (x : List ℕ). written (min c.counted-relations-counted.result.m 12) x (replicate 12 0)) these) in
+    let rows = rows_are P c.counted_relations-counted.result.rows c.counted_relations-counted.result.m c.m-m.result M (sym c.if-counted-m.false) c.m-m.ensures.most
+    (c.counted_relations-counted.ensures.rows ∙ ap (λ (x : List ℕ). written (min c.counted_relations-counted.result.m 12) x (replicate 12 0)) these) in
     let D : SFits w64 c.args.sheet.now.denominator = search rules in
     let d = to_z-of_z w64 c.args.sheet.now.denominator D in
     let n = c.count-n.ensures.value in

@@ -15,8 +15,8 @@ solve-requires g c =
     let d = to_z-of_z w64 c.args.d c.ranges.d in
     let rows : length c.args.rows.now ≡ c.m-m.result = c.requires.rows ∙ sym c.m-m.ensures.value in
     let few = c.m-m.ensures.most in
-    let left = c.split-at-mut-left.ensures.front-len in
-    let right = c.split-at-mut-left.ensures.back_len in
+    let left = c.split_at_mut-left.ensures.front_len in
+    let right = c.split_at_mut-left.ensures.back_len in
     record {
       parameters = omega (arith, n, c.requires.parameters);
       wished = omega (arith, n, c.requires.wished);

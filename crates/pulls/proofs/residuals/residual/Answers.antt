@@ -15,8 +15,8 @@ loop-s-init g c =
     let f = g.K.Kind.coords in
     λ k l. no_terms c.args.roles.now (to_z w64 (of_z w64 c.args.d)) (map f c.args.values.now) (map f c.args.wishes.now) c.args.relation.now.coefficients k (at (f c.add-sum.result) k)
 
-pub less-term-sum-requires : goal.less-term-sum-requires
-less-term-sum-requires g c =
+pub less_term-sum-requires : goal.less_term-sum-requires
+less_term-sum-requires g c =
     let f = g.K.Kind.coords in
     let s = c.loop-s.s in
     let cs = c.args.relation.now.coefficients in
@@ -44,9 +44,9 @@ loop-s-preserved g c =
     let y = ap f c.index-values-s.is ∙ sym (get_or-map f c.args.values.now s c.index-values-s.result [] (omega (arith, c.loop-s-test.true, c.requires.room))) in
     let first = begun size (length roles) roles c.args.d vs ws cs q c.requires.few c.requires.values c.requires.near c.requires.small c.requires.constant (f c.zero.result) (f c.add-sum.result) c.zero.ensures
     (c.add-sum.ensures ∙ ap (λ (z : ℤ). plus (f c.zero.result) z q) d) in
-    let is = c.less-term-sum.ensures ∙ ap₂ (λ (x z : ℤ). plus (f c.loop-s.sum) (factor (role roles s) x z) (taken (role roles s) (f c.index-wishes-s.result) (f c.index-values-s.result))) d a in
-    let now : (k : ℕ) → k < size → at (f c.less-term-sum.result) k ≡ residual_at (s + 1) roles c.args.d vs ws cs q k = less_one size (length roles) roles c.args.d vs ws cs q c.requires.few c.requires.values c.requires.near c.requires.small c.requires.constant s c.loop-s-test.true
-    (f c.loop-s.sum) (f c.less-term-sum.result) (f c.index-wishes-s.result) (f c.index-values-s.result) (g.met.K.Kind.laws.sized c.loop-s.sum) w y is
+    let is = c.less_term-sum.ensures ∙ ap₂ (λ (x z : ℤ). plus (f c.loop-s.sum) (factor (role roles s) x z) (taken (role roles s) (f c.index-wishes-s.result) (f c.index-values-s.result))) d a in
+    let now : (k : ℕ) → k < size → at (f c.less_term-sum.result) k ≡ residual_at (s + 1) roles c.args.d vs ws cs q k = less_one size (length roles) roles c.args.d vs ws cs q c.requires.few c.requires.values c.requires.near c.requires.small c.requires.constant s c.loop-s-test.true
+    (f c.loop-s.sum) (f c.less_term-sum.result) (f c.index-wishes-s.result) (f c.index-values-s.result) (g.met.K.Kind.laws.sized c.loop-s.sum) w y is
     (λ k l. c.loop-s.invariant k l ∙ ap₂ (λ (x z : ℤ). less_terms s roles x vs ws cs k z) d (first k l)) in
     λ k l. now k l ∙ sym (ap₂ (λ (x z : ℤ). less_terms (s + 1) roles x vs ws cs k z) d (first k l))
 

@@ -16,29 +16,29 @@ module _ (p h : ℕ) (us : List ℤ) (e : h ≡ divisor_from p us) (some : 0 < p
   read : to_z w64 h ≡ pos h
   read = to_z_pos w64 h (omega (arith, small))
 
-pub nonzero-div-result : goal.nonzero-div-result
-nonzero-div-result g c = above-0 c.args.p c.divisor-with-h.result (g.K.Kind.coords c.args.g) c.divisor-with-h.ensures (omega (arith, c.if-p-eq0.false)) c.requires
+pub nonzero_div-result : goal.nonzero_div-result
+nonzero_div-result g c = above-0 c.args.p c.divisor_with-h.result (g.K.Kind.coords c.args.g) c.divisor_with-h.ensures (omega (arith, c.if-p-eq0.false)) c.requires
 
-pub overflow-cast-h : goal.overflow-cast-h
-overflow-cast-h g c = let a = small c.args.p c.divisor-with-h.result (g.K.Kind.coords c.args.g) c.divisor-with-h.ensures (omega (arith, c.if-p-eq0.false)) c.requires in record { sfits = omega arith }
+pub overflow_cast-h : goal.overflow_cast-h
+overflow_cast-h g c = let a = small c.args.p c.divisor_with-h.result (g.K.Kind.coords c.args.g) c.divisor_with-h.ensures (omega (arith, c.if-p-eq0.false)) c.requires in record { sfits = omega arith }
 
 pub divided-requires : goal.divided-requires
 divided-requires g c =
     let h : 0 < c.args.p = omega (arith, c.if-p-eq0.false) in
-    let a = above-0 c.args.p c.divisor-with-h.result (g.K.Kind.coords c.args.g) c.divisor-with-h.ensures h c.requires in
-    let b : pos 1 ≤ℤ pos c.divisor-with-h.result = omega (arith, ints) in
-    subst (λ (z : ℤ). pos 1 ≤ℤ z) (sym (read c.args.p c.divisor-with-h.result (g.K.Kind.coords c.args.g) c.divisor-with-h.ensures h c.requires)) b
+    let a = above-0 c.args.p c.divisor_with-h.result (g.K.Kind.coords c.args.g) c.divisor_with-h.ensures h c.requires in
+    let b : pos 1 ≤ℤ pos c.divisor_with-h.result = omega (arith, ints) in
+    subst (λ (z : ℤ). pos 1 ≤ℤ z) (sym (read c.args.p c.divisor_with-h.result (g.K.Kind.coords c.args.g) c.divisor_with-h.ensures h c.requires)) b
 
-pub returns-then-value-above : goal.returns-then-value-above
-returns-then-value-above g c = lower-none g.K.Kind.size c.args.p (g.K.Kind.coords c.args.g) c.if-p-eq0.true (sym c.if-value-above.ensures)
+pub returns-then-value_above : goal.returns-then-value_above
+returns-then-value_above g c = lower-none g.K.Kind.size c.args.p (g.K.Kind.coords c.args.g) c.if-p-eq0.true (sym c.if-value_above.ensures)
 
 pub returns-then-p-eq0 : goal.returns-then-p-eq0
-returns-then-p-eq0 g c = lower-spare g.K.Kind.size c.args.p (g.K.Kind.coords c.args.g) (g.met.K.Kind.laws.sized c.args.g) c.if-p-eq0.true (sym c.if-value-above.ensures)
+returns-then-p-eq0 g c = lower-spare g.K.Kind.size c.args.p (g.K.Kind.coords c.args.g) (g.met.K.Kind.laws.sized c.args.g) c.if-p-eq0.true (sym c.if-value_above.ensures)
 
 pub returns : goal.returns
 returns g c =
     let us = g.K.Kind.coords c.args.g in
-    let e = c.divisor-with-h.ensures in
+    let e = c.divisor_with-h.ensures in
     let h : 0 < c.args.p = omega (arith, c.if-p-eq0.false) in
     lower-needed g.K.Kind.size c.args.p us h _ _ (ap (λ (h : ℕ). c.args.p / h) e)
-    (c.divided.ensures ∙ ap (quotients g.K.Kind.size us) (read c.args.p c.divisor-with-h.result us e h c.requires) ∙ ap (λ (h : ℕ). quotients g.K.Kind.size us (pos h)) e)
+    (c.divided.ensures ∙ ap (quotients g.K.Kind.size us) (read c.args.p c.divisor_with-h.result us e h c.requires) ∙ ap (λ (h : ℕ). quotients g.K.Kind.size us (pos h)) e)

@@ -32,8 +32,8 @@ carried-g-requires g c =
       small = subst (λ (k : ℕ). some_above 300000000 g.K.Kind.size k (map f c.args.found.now) ≡ false) (sym long) c.requires.small;
     }
 
-pub returns-in-err-number : goal.returns-in-err-number
-returns-in-err-number g c =
+pub returns-in_err-number : goal.returns-in_err-number
+returns-in_err-number g c =
     let f = g.K.Kind.coords in
     let size = g.K.Kind.size in
     let i = c.loop-i.i in
@@ -42,13 +42,13 @@ returns-in-err-number g c =
     let cs = map f c.args.found.now in
     let below : i < m = omega (arith, c.loop-i-test.true, c.m-i-end.ensures.value) in
     let this = carried_found size m t cs i below _ (f c.carried-g.result) c.right_half.ensures.value c.carried-g.ensures in
-    let e : c.from-residual.result ≡ Err c.in-err-number.field-0.0 = search rules in
-    let is = sym (ap (image (λ q. (q.0, f q.1))) c.in-err-number.was) ∙ c.lower-row.ensures in
-    let row = row_err size m t cs i c.diagonal-p.result below c.diagonal-p.ensures.value (f c.carried-g.result) this c.in-err-number.field-0.0 is in
+    let e : c.from_residual.result ≡ Err c.in_err-number.field-0.0 = search rules in
+    let is = sym (ap (image (λ q. (q.0, f q.1))) c.in_err-number.was) ∙ c.lower_row.ensures in
+    let row = row_err size m t cs i c.diagonal-p.result below c.diagonal-p.ensures.value (f c.carried-g.result) this c.in_err-number.field-0.0 is in
     record {
       answer = e ∙ ap Err row.0 ∙ sym (ap (λ (b : Bool). guard b Impossible (Ok tt)) (some-any m (λ k. not (is_needed t k) && any size (λ x. nonzero (coord (carried size m t cs) k x))) i below row.1));
-      numbers = not_made c.from-residual.result _ e _;
-      sums = not_made c.from-residual.result _ e _;
+      numbers = not_made c.from_residual.result _ e _;
+      sums = not_made c.from_residual.result _ e _;
     }
 
 pub loop-i-preserved : goal.loop-i-preserved
@@ -63,12 +63,12 @@ loop-i-preserved g c =
     let hs = divisors m t gs in
     let below : i < m = omega (arith, c.loop-i-test.true, c.m-i-end.ensures.value) in
     let this = carried_found size m t cs i below _ (f c.carried-g.result) c.right_half.ensures.value c.carried-g.ensures in
-    let is = sym (ap (image (λ q. (q.0, f q.1))) c.in-ok-number.was) ∙ c.lower-row.ensures in
-    let row = row_ok size m t cs i c.diagonal-p.result below c.diagonal-p.ensures.value (f c.carried-g.result) this c.in-ok-number.number (f c.in-ok-number.sum) is in
+    let is = sym (ap (image (λ q. (q.0, f q.1))) c.in_ok-number.was) ∙ c.lower_row.ensures in
+    let row = row_ok size m t cs i c.diagonal-p.result below c.diagonal-p.ensures.value (f c.carried-g.result) this c.in_ok-number.number (f c.in_ok-number.sum) is in
     let a = tab-length m (λ i. nat_abs (entry t i i) / get_or hs i 1) in
     let b : length (lowered_sums size m gs hs) ≡ m = tab-length m _ in (
-      written_set (lowered m t hs) c.args.diagonal.now c.loop-i.diagonal i c.in-ok-number.number 0 (omega (arith, a)) (omega (arith, c.requires.numbers)) row.0 c.loop-i.invariant.0,
-      written_more f c.args.sums.now c.loop-i.sums (lowered_sums size m gs hs) i c.in-ok-number.sum (omega (arith, b)) (omega (arith, c.requires.sums)) row.1 c.loop-i.invariant.1,
+      written_set (lowered m t hs) c.args.diagonal.now c.loop-i.diagonal i c.in_ok-number.number 0 (omega (arith, a)) (omega (arith, c.requires.numbers)) row.0 c.loop-i.invariant.0,
+      written_more f c.args.sums.now c.loop-i.sums (lowered_sums size m gs hs) i c.in_ok-number.sum (omega (arith, b)) (omega (arith, c.requires.sums)) row.1 c.loop-i.invariant.1,
       below_more _ _ c.loop-i.invariant.2 row.2,
     )
 

@@ -18,8 +18,8 @@ use Rattle.pulls.proofs.rows.write_residuals.Goals as goal
 pub bounds-constants-j : goal.bounds-constants-j
 bounds-constants-j g c = let l = length-map c.args.constants.now g.K.Kind.coords in omega (arith, c.requires.fine.known c.loop-i.i c.loop-i-test.true)
 
-pub offset-bounds-constants-j : goal.offset-bounds-constants-j
-offset-bounds-constants-j g c = let l = length-map c.args.constants.now g.K.Kind.coords in omega (arith, c.requires.fine.known c.loop-i.i c.loop-i-test.true)
+pub offset_bounds-constants-j : goal.offset_bounds-constants-j
+offset_bounds-constants-j g c = let l = length-map c.args.constants.now g.K.Kind.coords in omega (arith, c.requires.fine.known c.loop-i.i c.loop-i-test.true)
 
 pub residual-c-requires : goal.residual-c-requires
 residual-c-requires g c =
@@ -41,8 +41,8 @@ residual-c-requires g c =
       constant = subst (λ (u : List ℤ). bad_constant size u ≡ false) (sym q) (c.requires.fine.constant i c.loop-i-test.true);
     }
 
-pub returns-then-value-above : goal.returns-then-value-above
-returns-then-value-above g c =
+pub returns-then-value_above : goal.returns-then-value_above
+returns-then-value_above g c =
     let f = g.K.Kind.coords in
     let size = g.K.Kind.size in
     let i = c.loop-i.i in
@@ -57,7 +57,7 @@ returns-then-value-above g c =
     let this = residual_found n c.args.relations.now (map f qs) rows size c.args.roles.now c.args.d vs ws i c.loop-i-test.true (f c.residual-c.result) (f c.index-constants-j.result) _ (to_z-of_z w64 c.args.d c.ranges.d) q c.residual-c.ensures in
     record {
       answer = sym (ap (λ (b : Bool). guard b GapTooLarge (Ok tt)) (some-any (length rows) (λ k. any size (λ x. above 300000000 (coord all k x))) i c.loop-i-test.true
-          (ap (λ (u : List ℤ). any size (λ x. above 300000000 (at u x))) (sym this) ∙ sym c.if-value-above.ensures)));
+          (ap (λ (u : List ℤ). any size (λ x. above 300000000 (at u x))) (sym this) ∙ sym c.if-value_above.ensures)));
       list = tt;
     }
 
@@ -78,7 +78,7 @@ loop-i-preserved g c =
     let many = residual_rows n c.args.relations.now (map f qs) rows size c.args.roles.now D vs ws in
     let this = residual_found n c.args.relations.now (map f qs) rows size c.args.roles.now D vs ws i c.loop-i-test.true (f c.residual-c.result) (f c.index-constants-j.result) D refl q c.residual-c.ensures in (
       written_more f c.args.found.now c.loop-i.found all i c.residual-c.result (omega (arith, c.loop-i-test.true)) (omega (arith, c.loop-i-test.true, c.requires.many)) this c.loop-i.invariant.0,
-      below_more _ _ c.loop-i.invariant.1 (ap (λ (u : List ℤ). any size (λ x. above 300000000 (at u x))) (sym this) ∙ sym c.if-value-above.ensures),
+      below_more _ _ c.loop-i.invariant.1 (ap (λ (u : List ℤ). any size (λ x. above 300000000 (at u x))) (sym this) ∙ sym c.if-value_above.ensures),
     )
 
 pub returns : goal.returns

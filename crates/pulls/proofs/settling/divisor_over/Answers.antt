@@ -13,7 +13,7 @@ loop-s-preserved g c =
     let s = c.loop-s.s in
     let l = length-map xs f in
     let x = ap f c.index-proposal-s.is ∙ sym (get_or-map f xs s c.index-proposal-s.result [] c.loop-s-test.true) in
-    c.divisor-with-g.ensures ∙ ap₂ divisor_from c.loop-s.invariant x
+    c.divisor_with-g.ensures ∙ ap₂ divisor_from c.loop-s.invariant x
     ∙ sym (ap (divisor_from c.args.e) (joined_more (map f xs) s (omega (arith, c.loop-s-test.true))) ∙ divisor-append c.args.e (joined (take s (map f xs))) (get_or (map f xs) s []))
 
 pub returns : goal.returns
