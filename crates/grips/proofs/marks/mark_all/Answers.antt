@@ -26,11 +26,11 @@ loop-i-preserved c =
     let many = tab-length (length (bs n roles b rs c.requires)) (λ j. with_mark (relation_at rs j) (mark_of n roles (bs n roles b rs c.requires) t j)) in
     let here : relation_at c.loop-i.relations i ≡ relation_at rs i =
     ap (λ (xs : List Relation). relation_at xs i) so ∙ written_next (marks n roles (bs n roles b rs c.requires) t rs) rs i none (omega (arith, many, length_bs n roles b rs c.requires)) in
-    let counted = c.relation-counts-counts.ensures ∙ ap (λ (r : Relation). counts n roles r.coefficients) here in
-    let mark = c.mark-of.ensures ∙ ap (λ (z : ℤ). cond c.relation-counts-counts.result (cond (nonzero z) Needed Spare) Idle) c.diagonal.ensures.value in
+    let counted = c.relation_counts-counts.ensures ∙ ap (λ (r : Relation). counts n roles r.coefficients) here in
+    let mark = c.mark_of.ensures ∙ ap (λ (z : ℤ). cond c.relation_counts-counts.result (cond (nonzero z) Needed Spare) Idle) c.diagonal.ensures.value in
     let rows = counts-at n roles b rs c.requires i l in (
-      ap (λ (r : Relation). set c.loop-i.relations i (with_mark r c.mark-of.result)) here
-          ∙ marked_more n roles b rs c.requires t i c.loop-i.row c.loop-i.relations c.mark-of.result c.relation-counts-counts.result l so c.loop-i.invariant.1 counted mark,
+      ap (λ (r : Relation). set c.loop-i.relations i (with_mark r c.mark_of.result)) here
+          ∙ marked_more n roles b rs c.requires t i c.loop-i.row c.loop-i.relations c.mark_of.result c.relation_counts-counts.result l so c.loop-i.invariant.1 counted mark,
       elim c.if-counts.branch [
         | then-counts w ↦ w.row-is ∙ ap (λ (k : ℕ). k + 1) c.loop-i.invariant.1 ∙ sym (tally_more i _ (rows ∙ sym counted ∙ w.if-counts.true))
         | else-counts w ↦ w.row-is ∙ c.loop-i.invariant.1 ∙ sym (tally-same i _ (rows ∙ sym counted ∙ w.if-counts.false))

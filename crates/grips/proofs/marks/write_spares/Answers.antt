@@ -3,14 +3,14 @@ use Rattle.rules.specs.Values.{written}
 use Rattle.grips.specs.Spares.{spare_marks}
 use Rattle.grips.proofs.Listing.{spare_more, spare-same, grows, push_written}
 use Rattle.grips.proofs.marks.write_spares.Goals as goal
-use Rattle.grips.proofs.marks.write_spares.Goals.{then-is-spare, else-is-spare}
+use Rattle.grips.proofs.marks.write_spares.Goals.{then-is_spare, else-is_spare}
 
 -- there is a place for one more
-room : (c : goal.Then-is-spare) → c.loop-i.k < length c.args.spare.now
+room : (c : goal.Then-is_spare) → c.loop-i.k < length c.args.spare.now
 room c =
     let rs = c.args.relations.now in
     let i = c.loop-i.i in
-    let more = ap length (spare_more rs i (sym c.if-is-spare.ensures)) in
+    let more = ap length (spare_more rs i (sym c.if-is_spare.ensures)) in
     let one = length-append (spare_marks rs i) (i ∷ []) in
     let up = grows rs (i + 1) c.args.bound (omega (arith, c.loop-i-test.true)) in
     omega (arith, c.loop-i.invariant.0, more, one, up, c.requires.room)
@@ -18,11 +18,11 @@ room c =
 pub bounds-spare-k : goal.bounds-spare-k
 bounds-spare-k c = omega (arith, room c, c.loop-i.auto.spare)
 
-pub offset-bounds-spare-k : goal.offset-bounds-spare-k
-offset-bounds-spare-k c = let h : c.loop-i.k < length c.loop-i.spare = omega (arith, room c, c.loop-i.auto.spare) in search rules
+pub offset_bounds-spare-k : goal.offset_bounds-spare-k
+offset_bounds-spare-k c = let h : c.loop-i.k < length c.loop-i.spare = omega (arith, room c, c.loop-i.auto.spare) in search rules
 
-pub overflow-add-k : goal.overflow-add-k
-overflow-add-k c = let h : c.loop-i.k < length c.loop-i.spare = omega (arith, room c, c.loop-i.auto.spare) in search rules
+pub overflow_add-k : goal.overflow_add-k
+overflow_add-k c = let h : c.loop-i.k < length c.loop-i.spare = omega (arith, room c, c.loop-i.auto.spare) in search rules
 
 pub loop-i-preserved : goal.loop-i-preserved
 loop-i-preserved c =
@@ -30,9 +30,9 @@ loop-i-preserved c =
     let old = c.args.spare.now in
     let i = c.loop-i.i in
     let k = c.loop-i.k in
-    elim c.if-is-spare.branch [
-      | then-is-spare w ↦
-          let e = sym w.if-is-spare.ensures in
+    elim c.if-is_spare.branch [
+      | then-is_spare w ↦
+          let e = sym w.if-is_spare.ensures in
           let more = spare_more rs i e in
           let one = length-append (spare_marks rs i) (i ∷ []) in
           let up = grows rs (i + 1) c.args.bound (omega (arith, c.loop-i-test.true)) in
@@ -42,8 +42,8 @@ loop-i-preserved c =
                 ∙ push_written (spare_marks rs i) old i k c.loop-i.invariant.0 (omega (arith, c.loop-i.invariant.0, long, one, up, c.requires.room))
                 ∙ ap₂ (λ (j : ℕ) (xs : List ℕ). written j xs old) (sym w.k-is) (sym more),
           )
-      | else-is-spare w ↦
-          let same = spare-same rs i (sym w.if-is-spare.ensures) in (
+      | else-is_spare w ↦
+          let same = spare-same rs i (sym w.if-is_spare.ensures) in (
             w.k-is ∙ c.loop-i.invariant.0 ∙ ap length (sym same),
             w.spare-is ∙ c.loop-i.invariant.1 ∙ ap₂ (λ (j : ℕ) (xs : List ℕ). written j xs old) (sym w.k-is) (sym same),
           )

@@ -12,13 +12,13 @@ use Rattle.sheets.specs.Shown.{numbers}
 use Rattle.sheets.proofs.Fit.{fit_values, long, map-paste}
 use Rattle.grips.proofs.ending.Grip+Proposed.keep.Goals as goal
 
-pub copy-front-requires : goal.copy-front-requires
-copy-front-requires g c =
+pub copy_front-requires : goal.copy_front-requires
+copy_front-requires g c =
     let f = g.K.Kind.coords in
     let s = numbers c.args.self.sheet in
     let n = c.count-n.ensures in
     let t = long f g.K.Kind.size s c.args.values.now c.args.relations.now c.args.constants.now (sym c.if-unfit.ensures) in
-    let p = fit_values g.K.Kind.size c.count-n.result (to_z w64 (of_z w64 c.args.denominator)) (map f c.args.proposal.now) (sym c.if-unfit-values.ensures) in
+    let p = fit_values g.K.Kind.size c.count-n.result (to_z w64 (of_z w64 c.args.denominator)) (map f c.args.proposal.now) (sym c.if-unfit_values.ensures) in
     let m = length-map c.args.proposal.now f in
     (omega (arith, p.long), omega (arith, t.values_long))
 
@@ -35,10 +35,10 @@ returns g c =
     let read = to_z-of_z w64 e c.ranges.denominator in
     let n = c.count-n.ensures in
     let fine = sym c.if-unfit.ensures in
-    let good = ap₂ (λ (k : ℕ) (d : ℤ). unfit_values size k d ps) (sym n) (sym read) ∙ sym c.if-unfit-values.ensures in
+    let good = ap₂ (λ (k : ℕ) (d : ℤ). unfit_values size k d ps) (sym n) (sym read) ∙ sym c.if-unfit_values.ensures in
     let passed = or_from (unfit size s vs rs qs) (unfit_values size c.args.self.sheet.count e ps) fine good in
     let kept : Bool → Result rules.Sheet Refusal × List Coords = λ b. cond b (Err Unfit, vs) (Ok (record { count = c.args.self.sheet.count; bound = c.args.self.sheet.bound; d = e }), written c.args.self.sheet.count ps vs) in
     record {
       result = ap (λ (d : ℤ). Ok (record { count = c.args.self.sheet.count; bound = c.args.self.sheet.bound; d = d })) read ∙ sym (ap (λ (b : Bool). handing_back s (kept b).0) passed);
-      values = ap (map f) c.copy-front.ensures ∙ map-paste f c.args.values.now 0 c.args.proposal.now c.count-n.result ∙ ap (λ (k : ℕ). written k ps vs) n ∙ sym (ap (λ (b : Bool). (kept b).1) passed);
+      values = ap (map f) c.copy_front.ensures ∙ map-paste f c.args.values.now 0 c.args.proposal.now c.count-n.result ∙ ap (λ (k : ℕ). written k ps vs) n ∙ sym (ap (λ (b : Bool). (kept b).1) passed);
     }
