@@ -18,8 +18,8 @@ returns g c =
     let rr = with_items_is lists.relations c.bind-r.new.relations lr in
     let rq = with_items_is lists.constants c.bind-r.new.constants lq in
     let dv = c.deref.ensures.value in
-    let dr = c.deref-mut.ensures.value in
-    let dq = c.deref-mut-2.ensures.value in
+    let dr = c.deref_mut.ensures.value in
+    let dq = c.deref_mut-2.ensures.value in
     let e = rw (dv, dr, dq) at c.bind-r.ensures in
     record {
       after = rebound_use f lists (record { values = lists.values; relations = with_items lists.relations c.bind-r.new.relations; constants = with_items lists.constants c.bind-r.new.constants; proposal = lists.proposal; working = lists.working; spare = lists.spare }) refl refl refl refl (numbers c.args.sheet) (numbers c.bind-r.new.self) c.bind-r.new.relations c.bind-r.new.constants rr rq c.bind-r.result

@@ -19,8 +19,8 @@ returns g c =
     let rr = with_items_is lists.relations c.unbind-r.new.relations lr in
     let rq = with_items_is lists.constants c.unbind-r.new.constants lq in
     let dv = c.deref.ensures.value in
-    let dr = c.deref-mut.ensures.value in
-    let dq = c.deref-mut-2.ensures.value in
+    let dr = c.deref_mut.ensures.value in
+    let dq = c.deref_mut-2.ensures.value in
     let dn = to_z-of_z w64 c.args.number c.ranges.number in
     let e = rw (dv, dr, dq, dn) at c.unbind-r.ensures in
     record {
