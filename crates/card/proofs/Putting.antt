@@ -1,14 +1,13 @@
 -- What the writer's steps append.
-use Rattle.std.proofs.Common.{◌≡◌, ℕ, zero, suc, ◌+◌, ◌<◌, ◌≤◌, Bool, true, false, List, [], ◌∷◌, ◌++◌, length, get_or, take, ℤ, Ok, Err, Result, sym, refl, ap, ◌∙◌, subst, append_assoc, append-nil, arith}
+use Rattle.std.proofs.Common.{◌≡◌, ℕ, zero, suc, ◌+◌, ◌<◌, ◌≤◌, List, [], ◌∷◌, ◌++◌, length, get_or, take, ℤ, Ok, Err, Result, sym, refl, ap, ◌∙◌, subst, append_assoc, append-nil, arith}
 use Rattle.std.proofs.lemmas.List.{take_more, take_all}
 use Rattle.words.specs.declared.fault.Fault.{Fault}
 use Rattle.forms.specs.Forms.{PutWord}
 use Rattle.forms.specs.Rows.{Each}
-use Rattle.words.specs.Faults.{Refuses}
 use Rattle.words.specs.Words.{spaced}
 use Rattle.words.proofs.Cuts.{spaced-append}
 use Rattle.card.specs.Writes.{PutWords, OneWord}
-use Rattle.forms.proofs.Rows.{each-length, each_push, each_at}
+use Rattle.forms.proofs.Rows.{each_push}
 use Rattle.words.proofs.Appends.{refuses_map}
 use Rattle.words.specs.Numbers.{Number}
 use Rattle.lines.specs.Lines.{Said, binds, Values}

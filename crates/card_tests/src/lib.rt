@@ -4,4 +4,4 @@
 #[cfg(test)]
 mod headings;
 #[cfg(test)]
-mod lines;
+mod line_cases;

@@ -1,11 +1,7 @@
 -- The sort of a word that writes a value.
-use Rattle.std.proofs.Common.{◌≡◌, ℕ, ◌<◌, ◌≤◌, Bool, true, false, cond, List, [], ◌∷◌, length, ℤ, pos, negsuc, Some, None, Option, sym, refl, ap, ◌∙◌, subst, arith, Bor}
-use Rattle.std.proofs.lemmas.Str.Parse.{digit_at}
-use Rattle.std.proofs.lemmas.Bool.Decides.{nat_tests}
-use Rattle.words.specs.Numbers.{Number, Exactly}
-use Rattle.words.specs.Reading.{Next, left, starts}
-use Rattle.words.specs.Sorts.{Sort, verb, name, number, cell, sort, sort_of, text_of}
-use Rattle.words.specs.declared.word.Reader.{Reader}
+use Rattle.std.proofs.Common.{◌≡◌, ℕ, Bool, true, List, Some, None, Option, sym, ap, subst, arith, Bor}
+use Rattle.words.specs.Numbers.{Exactly}
+use Rattle.words.specs.Sorts.{Sort, number, cell, sort_of}
 use Rattle.words.specs.declared.word.Word.{Word}
 use Rattle.words.specs.declared.word.Word.TheVariants as w
 use Rattle.forms.specs.Forms.{Says}

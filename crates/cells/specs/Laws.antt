@@ -1,12 +1,9 @@
 -- The laws of the cells: one value to a word, one word to a value, and no space in a word.
-use Rattle.std.specs.Prelude.{◌≡◌, ℕ, zero, suc, ◌+◌, ◌<◌, ◌≤◌, ◌⊎◌, List, [], ◌∷◌, ◌++◌, length, ℤ, pos, negsuc, Ok, Err, Result, ◌≢◌, slice_index, refl}
-use Rattle.std.proofs.Common.{sym, ap, subst, ◌∙◌, inl, inr, ⊎_elim, arith}
-use Rattle.std.specs.Int.{IsInRange}
+use Rattle.std.specs.Prelude.{◌≡◌, ℕ, zero, suc, ◌<◌, ◌≤◌, List, [], ◌∷◌, ◌++◌, length, ℤ, pos, negsuc, Ok, Err, Result, ◌≢◌, slice_index, refl}
+use Rattle.std.proofs.Common.{sym, ap, subst, ◌∙◌, arith}
 use Rattle.std.proofs.lemmas.Str.Parse.{digit_at}
-use Rattle.std.specs.Fmt.{signed_decimal}
 use Rattle.words.specs.declared.fault.Fault.{Fault}
-use Rattle.words.specs.declared.fault.Fault.TheVariants.{Memory}
-use Rattle.words.specs.Numbers.{Plain, Number, Short}
+use Rattle.words.specs.Numbers.{Number}
 use Rattle.words.specs.Faults.{Done, Refuses}
 use Rattle.words.proofs.Digits.{number-once}
 use Rattle.forms.specs.Laws.{number_laws}

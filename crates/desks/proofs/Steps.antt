@@ -1,10 +1,9 @@
 -- What a call on a desk comes to, from what the sheet's call gave.
-use Rattle.std.proofs.Common.{◌≡◌, ℕ, List, map, length, ℤ, Ok, Err, vec_items, Result, sym, refl, ap, ◌∙◌, subst}
+use Rattle.std.proofs.Common.{◌≡◌, List, map, length, Ok, Err, vec_items, Result}
 use Rattle.records.specs.declared.refusal.Refusal.{Refusal}
 use Rattle.records.specs.declared.relation.Relation.{Relation}
 use Rattle.rules.specs.Values.{Coords}
 use Rattle.rules.specs.Sheets as rules
-use Rattle.rules.specs.Calls.{Bound}
 use Rattle.rules.specs.Runs as runs
 use Rattle.desks.specs.declared.desk.Lists.{Lists}
 use Rattle.desks.specs.Shown.{in_use}

@@ -1,5 +1,5 @@
 -- A desk's lists and state as a sheet in use, and the code's answers as the rules have them.
-use Rattle.std.specs.Prelude.{ℕ, List, map, length, ℤ, Ok, Err, vec_items}
+use Rattle.std.specs.Prelude.{map, length, Ok, Err, vec_items}
 use Rattle.rules.specs.Sheets as rules
 use Rattle.rules.specs.Runs as runs
 use Rattle.rules.specs.Values.{Coords}

@@ -1,5 +1,5 @@
 -- Values that one word writes.
-use Rattle.std.specs.Prelude.{◌≡◌, ℕ, ◌<◌, Bool, ◌⊎◌, List, ◌++◌, length, Ok, Err, Result, slice_index}
+use Rattle.std.specs.Prelude.{◌≡◌, ℕ, ◌<◌, Bool, List, ◌++◌, length, Ok, Err, Result, slice_index}
 use Rattle.words.specs.declared.fault.Fault.{Fault}
 use Rattle.words.specs.declared.word.Word.{Word}
 use Rattle.words.specs.Faults.{Refuses}

@@ -1,15 +1,14 @@
 -- The laws of the forms: one value to a word, one word to a value, and no space in a word.
-use Rattle.std.specs.Prelude.{◌≡◌, ℕ, zero, suc, ◌+◌, ◌<◌, ◌≤◌, ◌⊎◌, List, [], ◌∷◌, ◌++◌, length, ℤ, pos, negsuc, Ok, Err, Result, slice_index, refl}
+use Rattle.std.specs.Prelude.{◌≡◌, ℕ, zero, suc, ◌<◌, ◌⊎◌, List, ◌∷◌, ◌++◌, length, ℤ, pos, negsuc, Ok, Err, Result, slice_index, refl}
 use Rattle.std.proofs.Common.{sym, ap, subst, ◌∙◌, inl, inr, ⊎_elim, arith}
 use Rattle.std.specs.Int.{IsInRange}
 use Rattle.std.proofs.lemmas.Str.Parse.{digit_at}
 use Rattle.std.specs.Fmt.{signed_decimal}
 use Rattle.words.specs.declared.fault.Fault.{Fault}
-use Rattle.words.specs.declared.fault.Fault.TheVariants.{Memory}
-use Rattle.words.specs.Numbers.{Plain, Number, Short}
+use Rattle.words.specs.Numbers.{Number, Short}
 use Rattle.words.specs.Faults.{Done, Refuses}
 use Rattle.words.proofs.Digits.{number-once, number-written, written-number}
-use Rattle.forms.specs.Forms.{Forms, Visible, PutWord}
+use Rattle.forms.specs.Forms.{Forms, PutWord}
 
 -- the bytes of a number are digits and a minus
 pub number_bytes : (w : List ℕ) (z : ℤ) → Number w z → (k : ℕ) → k < length w → (slice_index w k ≡ 45) ⊎ IsInRange 48 57 (slice_index w k)

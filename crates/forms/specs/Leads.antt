@@ -1,5 +1,5 @@
 -- The sort of a word that writes a value.
-use Rattle.std.specs.Prelude.{◌≡◌, ℕ, ◌<◌, ◌≤◌, Bool, true, false, cond, List, [], ◌∷◌, length, ℤ, pos, negsuc, Some, None, Option, refl}
+use Rattle.std.specs.Prelude.{◌≡◌, ℕ, ◌≤◌, Bool, true, List, [], ◌∷◌, length, ℤ, pos, negsuc, Some, None, Option}
 use Rattle.std.proofs.Common.{sym, ap, subst, ◌∙◌, arith}
 use Rattle.std.proofs.lemmas.Str.Parse.{digit_at}
 use Rattle.std.proofs.lemmas.Bool.Decides.{nat_tests}
@@ -8,7 +8,6 @@ use Rattle.words.specs.Reading.{Next, left, starts}
 use Rattle.words.specs.Sorts.{verb, number, sort_of, text_of, Calls}
 use Rattle.words.specs.declared.word.Reader.{Reader}
 use Rattle.words.specs.declared.word.Word.{Word}
-use Rattle.words.specs.declared.word.Word.TheVariants as w
 use Rattle.forms.specs.Forms.{Says}
 use Rattle.forms.specs.Rows.{OneRead}
 

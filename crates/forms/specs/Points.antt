@@ -1,6 +1,6 @@
 -- Points: two numbers joined by a comma.
-use Rattle.std.specs.Prelude.{◌≡◌, ℕ, zero, suc, ◌+◌, ◌-◌, ◌<◌, ◌≤◌, Bool, true, cond, ◌⊎◌, List, [], ◌∷◌, ◌++◌, length, take, drop, ℤ, Some, None, Ok, Err, Option, Result, ◌≢◌, slice_index, slice_range, refl}
-use Rattle.std.proofs.Common.{sym, ap, subst, ◌∙◌, inl, inr, ⊎_elim, append_assoc, arith, take-append-drop, length-append}
+use Rattle.std.specs.Prelude.{◌≡◌, ℕ, zero, suc, ◌+◌, ◌-◌, ◌<◌, ◌≤◌, Bool, true, List, [], ◌∷◌, ◌++◌, length, take, drop, ℤ, Some, None, Ok, Err, Option, Result, ◌≢◌, slice_index, slice_range, refl}
+use Rattle.std.proofs.Common.{sym, ap, subst, ◌∙◌, ⊎_elim, append_assoc, arith, take-append-drop, length-append}
 use Rattle.std.proofs.lemmas.List.{drop_more, take_all, get_or-take, get_or_at, length-drop, length-take, append_cancel_left}
 use Rattle.std.specs.Borrow.{Bor}
 use Rattle.kinds.specs.declared.length.Length.{Length}
@@ -8,10 +8,9 @@ use Rattle.kinds.specs.declared.point.Point.{Point}
 use Rattle.words.specs.declared.fault.Fault.{Fault}
 use Rattle.words.specs.declared.word.Word.{Word}
 use Rattle.words.specs.declared.word.Word.TheVariants as w
-use Rattle.words.specs.Faults.{Done, Refuses}
 use Rattle.words.specs.Lines.{Lacks}
 use Rattle.words.specs.Numbers.{Number, Exactly}
-use Rattle.words.specs.Sorts.{Sort, number, sort, sort_of, text_of}
+use Rattle.words.specs.Sorts.{number, sort, sort_of, text_of}
 use Rattle.words.specs.Words.{pieces}
 use Rattle.words.proofs.Appends.{refuses_map}
 use Rattle.words.proofs.Cuts.{first_out}

@@ -1,5 +1,5 @@
 -- The list of spare relations, one number after the other.
-use Rattle.std.proofs.Common.{◌≡◌, ℕ, zero, suc, ◌+◌, ◌<◌, ◌≤◌, Bool, true, false, cond, List, [], ◌∷◌, ◌++◌, length, get_or, take, drop, set, ℤ, sym, refl, ap, ◌∙◌, ap₂, zero-add, add-one, arith, length-append}
+use Rattle.std.proofs.Common.{◌≡◌, ℕ, zero, suc, ◌+◌, ◌<◌, ◌≤◌, Bool, true, false, cond, List, [], ◌∷◌, ◌++◌, length, get_or, drop, set, ℤ, sym, refl, ap, ◌∙◌, ap₂, zero-add, add-one, arith, length-append}
 use native.Mathlib.Decide.{ℕ_discrete}
 use lib.Seq.{paste, take-append-le, get_or_at}
 use Rattle.std.proofs.lemmas.List.Edits.{paste_more}

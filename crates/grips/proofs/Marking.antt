@@ -1,5 +1,5 @@
 -- Marks written one after the other.
-use Rattle.std.proofs.Common.{◌≡◌, ℕ, ◌+◌, ◌<◌, ◌≤◌, Bool, true, false, cond, List, [], ◌∷◌, map, length, get_or, take, drop, set, ℤ, pos, sym, refl, ap, ◌∙◌, ap₂, zero-add, arith, get_or-drop, get_or-append-add}
+use Rattle.std.proofs.Common.{◌≡◌, ℕ, ◌+◌, ◌<◌, ◌≤◌, Bool, cond, List, [], length, get_or, take, drop, set, sym, ap, ◌∙◌, ap₂, zero-add, arith, get_or-drop, get_or-append-add}
 use lib.Seq.{paste}
 use Rattle.std.proofs.lemmas.List.Edits.{paste_more}
 use Rattle.std.proofs.lemmas.List.{length-map, length-take-le, get_or-map, get_or-take}
@@ -8,12 +8,12 @@ use Rattle.records.specs.declared.relation.Mark.TheVariants.{Idle, Needed, Spare
 use Rattle.records.specs.declared.relation.Relation.{Relation}
 use Rattle.records.specs.declared.role.Role.{Role}
 use Rattle.whole.specs.Lists.{tab}
-use Rattle.whole.specs.Tests.{tally, nonzero}
+use Rattle.whole.specs.Tests.{nonzero}
 use Rattle.whole.proofs.Lists.{tab-length, get_or-tab}
 use Rattle.linear.specs.Elimination.{Grid, entry}
 use Rattle.rules.specs.Values.{written}
 use Rattle.rules.specs.Sheets.{Bond, bond, no_bond, relation_at}
-use Rattle.rules.specs.Gripping.{counts, is_needed, row_of, mark_of, with_mark}
+use Rattle.rules.specs.Gripping.{counts, row_of, mark_of, with_mark}
 use Rattle.workings.specs.Chosen.{bare}
 use Rattle.workings.proofs.Counting.{counts-take}
 

@@ -1,16 +1,16 @@
 -- Marks follow the coefficients of relations, and not their constants.
-use Rattle.std.proofs.Common.{◌≡◌, ℕ, zero, suc, ◌<◌, ◌≤◌, Bool, true, false, cond, List, [], ◌∷◌, ◌++◌, map, length, get_or, take, ℤ, sym, refl, ap, ◌∙◌, ap₂, get_or-take}
-use Rattle.std.proofs.lemmas.List.{length-map, length-take-le, get_or-map, get_or_past}
+use Rattle.std.proofs.Common.{◌≡◌, ℕ, zero, suc, ◌≤◌, cond, List, [], ◌∷◌, map, length, get_or, take, ℤ, sym, refl, ap, ◌∙◌, get_or-take}
+use Rattle.std.proofs.lemmas.List.{length-map, length-take-le}
 use Rattle.records.specs.declared.relation.Mark.TheVariants.{Idle, Needed, Spare}
 use Rattle.records.specs.declared.relation.Relation.{Relation}
 use Rattle.records.specs.declared.role.Role.{Role}
-use Rattle.whole.specs.Lists.{tab, at}
+use Rattle.whole.specs.Lists.{tab}
 use Rattle.whole.specs.Tests.{tally}
 use Rattle.whole.proofs.Lists.{tab_ext, tab_of, map-tab}
 use Rattle.linear.specs.Elimination.{Grid}
 use Rattle.rules.specs.Sheets.{Sheet, Bond, bond, bonds, no_bond, relation_at}
 use Rattle.rules.specs.Values.{written}
-use Rattle.rules.specs.Gripping.{counts, is_needed, mark_of, with_mark, marked, is_spare, spares}
+use Rattle.rules.specs.Gripping.{counts, is_needed, mark_of, with_mark, marked}
 use Rattle.workings.specs.Chosen.{bare}
 
 -- a relation without its constant

@@ -8,7 +8,7 @@ use Rattle.records.specs.declared.role.Role.{Role}
 use Rattle.whole.proofs.Lists.{tab-length}
 use Rattle.rules.specs.Values.{Coords, written}
 use Rattle.rules.specs.Sheets.{Sheet, Bond, bond, bonds, relation_at, Workings}
-use Rattle.rules.specs.Gripping.{counted, row_of, marked, spares}
+use Rattle.rules.specs.Gripping.{counted, row_of, marked}
 use Rattle.rules.specs.Calls.{Listed, spare_numbers}
 use Rattle.workings.specs.Chosen.{bare}
 use Rattle.grips.specs.Spares.{spare_marks}

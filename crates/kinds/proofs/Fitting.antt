@@ -1,5 +1,5 @@
 -- When u + k × v fits, and what stands at each coordinate of it.
-use Rattle.std.proofs.Common.{◌≡◌, ℕ, ◌+◌, ◌*◌, ◌^◌, ◌<◌, ◌≤◌, Bool, true, false, cond, not, ◌||◌, List, length, ℤ, pos, ◌+ℤ◌, ◌*ℤ◌, nat_abs, sym, refl, ap, ◌∙◌, arith, w64, SFits}
+use Rattle.std.proofs.Common.{◌≡◌, ℕ, ◌+◌, ◌*◌, ◌^◌, ◌<◌, ◌≤◌, Bool, true, false, cond, not, List, length, ℤ, ◌+ℤ◌, ◌*ℤ◌, nat_abs, ap, ◌∙◌, arith, w64, SFits}
 use borrow.Author.Differences.{ints}
 use Rattle.std.proofs.lemmas.Bool.{or_from, not_from_true, not_from_false}
 use Rattle.whole.specs.Lists.{at}

@@ -1,5 +1,5 @@
 -- Tests of the indices below a bound, made one after the other.
-use Rattle.std.proofs.Common.{◌≡◌, ℕ, suc, ◌+◌, ◌<◌, Bool, false, ◌||◌, List, [], map, length, get_or, ℤ, sym, ap, ◌∙◌, add-one}
+use Rattle.std.proofs.Common.{◌≡◌, ℕ, ◌+◌, ◌<◌, Bool, false, List, [], map, length, get_or, ℤ, sym, ap, ◌∙◌, add-one}
 use Rattle.std.proofs.lemmas.List.{get_or-map}
 use Rattle.std.proofs.lemmas.Bool.{or_from}
 use Rattle.whole.specs.Lists.{at, coord}

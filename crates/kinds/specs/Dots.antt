@@ -3,7 +3,6 @@ use Rattle.std.specs.Prelude.{◌≡◌, ℕ, ◌<◌, ◌≤◌, ◌≢◌, Lis
 use Rattle.std.proofs.Common.{ap, ◌∙◌, ⊎_elim, arith}
 use Rattle.std.proofs.Math.IntN.{*ℤ_comm}
 use Rattle.whole.specs.Lists.{tab, at}
-use Rattle.whole.specs.Sums.{sum}
 use Rattle.whole.proofs.Integers.{+-*, *-assoc, *-zero, square-≥0, above-0}
 use Rattle.whole.proofs.Lists.{at-tab}
 use Rattle.whole.proofs.Sums.{sum_ext, sum_add, sum_scale, sum-≥0, sum_all-0}

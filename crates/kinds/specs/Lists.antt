@@ -1,6 +1,6 @@
 -- Lists of zeros.
-use Rattle.std.specs.Prelude.{◌≡◌, ℕ, zero, suc, ◌<◌, List, [], ◌∷◌, length, replicate, ℤ, pos, refl}
-use Rattle.std.proofs.Common.{ap, ap₂, sym, ◌∙◌}
+use Rattle.std.specs.Prelude.{◌≡◌, ℕ, zero, suc, ◌<◌, List, ◌∷◌, length, replicate, ℤ, pos, refl}
+use Rattle.std.proofs.Common.{ap, sym, ◌∙◌}
 use Rattle.whole.specs.Lists.{tab, at}
 use Rattle.whole.proofs.Lists.{tab_of, tab_ext}
 

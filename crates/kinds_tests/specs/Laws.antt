@@ -1,10 +1,9 @@
 -- The weighted product of three coordinates keeps the laws of a kind.
-use Rattle.std.specs.Prelude.{◌≡◌, ℕ, suc, ◌<◌, ◌≢◌, List, [], ◌∷◌, length, ℤ, pos, ◌+ℤ◌, ◌*ℤ◌, ◌≤ℤ◌, ◌<ℤ◌, refl}
+use Rattle.std.specs.Prelude.{◌≡◌, ℕ, suc, ◌≢◌, List, length, ℤ, pos, ◌+ℤ◌, ◌*ℤ◌, ◌≤ℤ◌, ◌<ℤ◌, refl}
 use Rattle.std.proofs.Common.{sym, ap, ◌∙◌, ⊎_elim, arith}
 use Rattle.std.proofs.Math.IntN.{*ℤ_comm}
 use Rattle.std.proofs.lemmas.Int.{ints}
 use Rattle.whole.specs.Lists.{tab, at}
-use Rattle.whole.specs.Sums.{sum}
 use Rattle.whole.proofs.Integers.{*-+, +-*, *-assoc, above-0, not_both}
 use Rattle.whole.proofs.Lists.{at-tab}
 use Rattle.whole.proofs.Sums.{sum_ext, sum_add, sum_scale, squares-≥0, squares-0}

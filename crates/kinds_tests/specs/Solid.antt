@@ -1,5 +1,5 @@
 -- A kind with three coordinates, whose inner product weighs them 1, 2 and 3.
-use Rattle.std.specs.Prelude.{ℕ, suc, List, [], ◌∷◌, ℤ, pos, ◌*ℤ◌}
+use Rattle.std.specs.Prelude.{suc, List, [], ◌∷◌, ℤ, pos, ◌*ℤ◌}
 use Rattle.whole.specs.Lists.{at}
 use Rattle.whole.specs.Sums.{sum}
 use Rattle.kinds_tests.specs.declared.solid.Solid.{Solid}

@@ -1,5 +1,5 @@
 -- Pivots, workings, and which relations are spare.
-use Rattle.std.proofs.Common.{◌≡◌, ℕ, zero, suc, ◌+◌, ◌<◌, ◌≤◌, Bool, true, false, cond, ◌||◌, ltb, ◌≢◌, ◌↔◌, List, [], ◌∷◌, ◌++◌, length, get_or, take, drop, ℤ, pos, ◌*ℤ◌, ◌≤ℤ◌, Ok, Result, sym, refl, ap, ◌∙◌, subst, suc-le-suc, zero-le, add-one, arith, length-append, take-append-drop, drop-cons}
+use Rattle.std.proofs.Common.{◌≡◌, ℕ, zero, suc, ◌<◌, ◌≤◌, Bool, true, false, cond, ◌||◌, ltb, ◌≢◌, ◌↔◌, List, [], ◌∷◌, ◌++◌, length, get_or, take, drop, ℤ, pos, ◌*ℤ◌, ◌≤ℤ◌, Ok, Result, sym, refl, ap, ◌∙◌, subst, suc-le-suc, zero-le, add-one, arith, length-append, take-append-drop, drop-cons}
 use mathlib.Core.Bool.{false≢true}
 use Rattle.std.proofs.lemmas.List.{get_or_append_left, take_more}
 use Rattle.std.proofs.lemmas.Bool.{not-false, ltb-false}

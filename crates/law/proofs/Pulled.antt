@@ -1,5 +1,5 @@
 -- A pull with the workings of a grip on the sheet, by what stands where its lists fit.
-use Rattle.std.proofs.Common.{◌≡◌, ℕ, ◌<◌, ◌≤◌, Bool, true, false, cond, not, ◌||◌, eqb, ltb, List, [], length, get_or, take, pos, ◌<ℤ◌, Ok, Err, sym, refl, ap, ◌∙◌, subst, arith}
+use Rattle.std.proofs.Common.{◌≡◌, ℕ, ◌<◌, ◌≤◌, Bool, true, false, cond, not, ◌||◌, eqb, ltb, List, [], length, get_or, Ok, Err, refl, ap, ◌∙◌, subst, arith}
 use borrow.Author.Differences.{ints}
 use Rattle.std.proofs.lemmas.List.{length-take-le, get_or-take}
 use Rattle.std.proofs.lemmas.Bool.{or_parts}
@@ -9,7 +9,7 @@ use Rattle.records.specs.declared.relation.Relation.{Relation}
 use Rattle.records.specs.declared.role.Role.{Role}
 use Rattle.rules.specs.Limits.{most_relations, working_places}
 use Rattle.rules.specs.Values.{Coords}
-use Rattle.rules.specs.Sheets.{Sheet, bonds, Workings, unfit_values, unfit_relations, unfit}
+use Rattle.rules.specs.Sheets.{Sheet, bonds, Workings, unfit_values, unfit}
 use Rattle.rules.specs.Gripping.{counted}
 use Rattle.rules.specs.Pulling.{proposed}
 use Rattle.rules.specs.Calls as Calls

@@ -8,7 +8,7 @@ use Rattle.rules.specs.Pulling.{Placing}
 use Rattle.rules.specs.Calls.{opening}
 use Rattle.rules.specs.Runs.{Use, Call, Reply, step, opened}
 use Rattle.law.specs.Histories.{Entry, Told, at_opening, tell, told_from}
-use Rattle.law.specs.Law.{shown, Permitted, Made}
+use Rattle.law.specs.Law.{Permitted, Made}
 use Rattle.law.specs.Plenty.{LongLists}
 use Rattle.law.specs.Run.{shown_from, Run}
 use Rattle.law.specs.Standing.{Standing}

@@ -1,16 +1,15 @@
 -- The law for runs, by induction over the history.
-use Rattle.std.proofs.Common.{◌≡◌, ℕ, ◌<◌, min, Bool, true, false, cond, ◌||◌, ltb, List, [], ◌∷◌, ◌++◌, length, take, pos, ◌*ℤ◌, ◌<ℤ◌, Ok, Err, Result, sym, refl, ap, ◌∙◌, subst, not-suc-le-zero, arith}
+use Rattle.std.proofs.Common.{◌≡◌, ℕ, min, Bool, true, false, cond, ◌||◌, ltb, List, [], ◌∷◌, ◌++◌, length, take, pos, ◌<ℤ◌, Ok, Err, Result, sym, refl, ap, ◌∙◌, subst, not-suc-le-zero, arith}
 use borrow.Author.Differences.{ints}
 use Rattle.std.proofs.lemmas.List.{take_all}
 use Rattle.whole.specs.Lists.{tab}
 use Rattle.whole.proofs.Lists.{tab-length, get_or-tab}
-use Rattle.whole.proofs.Sums.{sum_ext}
 use Rattle.linear.proofs.Outcomes.{not_accepted}
 use Rattle.records.specs.declared.refusal.Refusal.{Refusal}
 use Rattle.records.specs.declared.refusal.Refusal.TheVariants.{Unfit, Count}
 use Rattle.rules.specs.Limits.{most_parameters}
 use Rattle.rules.specs.Values.{Coords, zeros, written}
-use Rattle.rules.specs.Sheets.{Sheet, no_bond}
+use Rattle.rules.specs.Sheets.{Sheet}
 use Rattle.rules.specs.Pulling.{Placing}
 use Rattle.rules.specs.Calls.{opening}
 use Rattle.rules.specs.Runs.{Use, step, opened}

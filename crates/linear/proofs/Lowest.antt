@@ -1,5 +1,5 @@
 -- A placing whose denominator and numerators are all multiplied by one factor above 0 is the same placing.
-use Rattle.std.proofs.Common.{◌≡◌, ℕ, ◌<◌, List, [], ◌∷◌, ℤ, pos, ◌-ℤ◌, ◌*ℤ◌, ◌<ℤ◌, sym, ap, ◌∙◌, subst, inr}
+use Rattle.std.proofs.Common.{◌≡◌, ℕ, List, [], ◌∷◌, ℤ, pos, ◌-ℤ◌, ◌*ℤ◌, ◌<ℤ◌, sym, ap, ◌∙◌, subst, inr}
 use Rattle.whole.proofs.Integers.{*->0, cancel-*, cancel-<}
 use Rattle.whole.proofs.Ring.{v, ◌⊖◌, ◌⊗◌, ring}
 use Rattle.whole.proofs.Sums.{sum_ext, sum_scale}

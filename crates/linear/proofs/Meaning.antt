@@ -1,5 +1,5 @@
 -- A finished elimination has the meaning.
-use Rattle.std.proofs.Common.{ℕ, ◌<◌, ◌⊎◌, ℤ, pos, ◌≤ℤ◌, sym, subst, ⊎_elim, le_refl}
+use Rattle.std.proofs.Common.{ℕ, ◌<◌, ℤ, pos, ◌≤ℤ◌, sym, subst, ⊎_elim, le_refl}
 use lib.Signed.{≤ℤ_refl}
 use Rattle.whole.proofs.Integers.{<→≤, not_both}
 use Rattle.linear.specs.Elimination.{Grid, entry, right_half, start, steps}

@@ -1,5 +1,5 @@
 -- What a table is for, from its meaning alone: the solution of N x = f c, and when there is none.
-use Rattle.std.proofs.Common.{◌≡◌, ℕ, ◌+◌, ◌<◌, ◌≢◌, ◌⊎◌, [], ◌∷◌, ℤ, pos, ◌+ℤ◌, ◌-ℤ◌, ◌*ℤ◌, ◌≤ℤ◌, sym, ap, ◌∙◌, ⊎_elim}
+use Rattle.std.proofs.Common.{◌≡◌, ℕ, ◌<◌, ◌≢◌, ◌⊎◌, [], ◌∷◌, ℤ, pos, ◌+ℤ◌, ◌-ℤ◌, ◌*ℤ◌, ◌≤ℤ◌, sym, ap, ◌∙◌, ⊎_elim}
 use lib.IntN.{*ℤ-zero, zero-*ℤ, *ℤ_comm, ℤ_discrete}
 use Rattle.whole.specs.Sums.{sum}
 use Rattle.whole.proofs.Integers.{cancel, *-zero, one-*}

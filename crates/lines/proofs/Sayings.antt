@@ -1,8 +1,7 @@
 -- What each call's reader needs: words that it took, and words that it refused.
-use Rattle.std.proofs.Common.{◌≡◌, ℕ, suc, ◌+◌, List, [], ◌∷◌, ◌++◌, length, ℤ, Some, None, Option, sym, refl, ap, ◌∙◌, subst, append-nil, arith, length-append}
+use Rattle.std.proofs.Common.{◌≡◌, ℕ, List, [], ◌∷◌, ◌++◌, length, ℤ, Some, None, sym, refl, ap, ◌∙◌, subst, append-nil, arith, length-append}
 use Rattle.std.proofs.lemmas.List.{nil_from_length}
 use Rattle.cells.specs.declared.cell.Cell.{Cell}
-use Rattle.cells.specs.declared.verb.Verb.{Verb}
 use Rattle.cells.specs.declared.verb.Verb.TheVariants as v
 use Rattle.words.specs.Numbers.{Number}
 use Rattle.cells.specs.Cells.{CellForm}

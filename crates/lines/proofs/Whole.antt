@@ -1,5 +1,5 @@
 -- A whole line: its bytes against its words.
-use Rattle.std.proofs.Common.{◌≡◌, ℕ, zero, suc, ◌+◌, ◌-◌, ◌<◌, ◌≤◌, Bool, true, cond, eqb, List, [], ◌∷◌, ◌++◌, length, get_or, take, drop, Some, None, Ok, Err, Option, Result, sym, refl, ap, ◌∙◌, subst, arith, lit<, length-append}
+use Rattle.std.proofs.Common.{◌≡◌, ℕ, ◌≤◌, true, cond, eqb, List, [], ◌∷◌, ◌++◌, length, get_or, Some, None, Ok, Err, Option, Result, sym, refl, ap, ◌∙◌, subst, arith, lit<}
 use Rattle.std.specs.List.{AllByRecursion as All}
 use Rattle.std.proofs.slice.Lists.{all_by_recursion_push}
 use Rattle.std.proofs.lemmas.List.{same_from_push}
@@ -10,7 +10,6 @@ use Rattle.lines.specs.declared.line.Line.{Line}
 use Rattle.words.specs.Numbers.{Number, Exactly}
 use Rattle.words.specs.Words.{joined_by, pieces}
 use Rattle.words.specs.Lines.{Lacks, Lined}
-use Rattle.words.specs.Faults.{Refuses}
 use Rattle.words.specs.Reading.{Next, left, starts}
 use Rattle.words.specs.Sorts.{sort_of, Calls}
 use Rattle.words.specs.Sorts as sorts
@@ -25,7 +24,7 @@ use Rattle.words.proofs.Cuts.{joined-pieces, pieces-joined, lacks_all}
 use Rattle.forms.specs.Leads.{first_read}
 use Rattle.forms.specs.Laws.{number_laws}
 use Rattle.cells.specs.Laws.{cell_laws}
-use Rattle.lines.specs.Lines.{Said, binds, unbinds, grips, pulls, keeps, drops, said, verb_of, Values, Spelled, ReadBy, LineRead}
+use Rattle.lines.specs.Lines.{Said, binds, unbinds, grips, pulls, keeps, drops, verb_of, Values, Spelled, ReadBy, LineRead}
 
 -- a verb by its first byte
 abbrev verb_from : ℕ → Verb

@@ -1,12 +1,12 @@
 -- u + k × v by coordinates, where every product and sum fits.
 use Rattle.std.proofs.Common.{◌≡◌, ℕ, ◌^◌, ◌<◌, ◌≤◌, Bool, true, false, cond, List, length, ℤ, pos, ◌+ℤ◌, ◌*ℤ◌, nat_abs, sym, refl, ap, ◌∙◌, subst, arith, w64, SFits}
 use lib.IntN.{zero-*ℤ, +ℤ_idr}
-use Rattle.whole.specs.Lists.{at, tab}
+use Rattle.whole.specs.Lists.{at}
 use Rattle.whole.proofs.Lists.{tab_of, tab_ext}
 use Rattle.whole.proofs.Sizes.{fits}
 use Rattle.kinds.specs.Coords.{plus_scaled}
 use Rattle.kinds.specs.Outcomes.{all_fit}
-use Rattle.kinds.proofs.Fitting.{length-plus_scaled, at-plus_scaled, all_fit_from, combine_fits}
+use Rattle.kinds.proofs.Fitting.{at-plus_scaled, all_fit_from, combine_fits}
 use Rattle.pulls.specs.Steps.{plus}
 
 -- nothing is added

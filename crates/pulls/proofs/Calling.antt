@@ -1,5 +1,5 @@
 -- When a pull is refused before it begins, and what it leaves in the whole lists.
-use Rattle.std.proofs.Common.{◌≡◌, ℕ, ◌<◌, ◌≤◌, Bool, true, false, cond, not, ◌||◌, eqb, ltb, List, [], ◌++◌, map, length, get_or, take, drop, ℤ, pos, nat_abs, Ok, Err, Result, sym, refl, ap, ◌∙◌, subst, ap₂, zero-add, arith}
+use Rattle.std.proofs.Common.{◌≡◌, ℕ, ◌<◌, ◌≤◌, Bool, true, false, cond, not, ◌||◌, eqb, ltb, List, [], ◌++◌, map, length, get_or, drop, ℤ, Ok, Err, Result, sym, ap, ◌∙◌, ap₂, zero-add, arith}
 use borrow.Rule.Slice.PartMut.{post_of}
 use Rattle.std.proofs.lemmas.List.{length-map, take_all, map-append, drop-map}
 use Rattle.std.proofs.lemmas.Bool.{or_parts, ltb-false, not-false, eqb-true, eq-eqb, ne_eqb}
@@ -8,10 +8,10 @@ use Rattle.records.specs.declared.refusal.Refusal.TheVariants.{Unfit}
 use Rattle.records.specs.declared.relation.Relation.{Relation}
 use Rattle.whole.proofs.Tests.{any_false}
 use Rattle.rules.specs.Values.{Coords, zeros, written}
-use Rattle.rules.specs.Sheets.{Sheet, Workings, bonds, relation_at, bad_coefs, bad_relation, unfit_values, unfit_relations, unfit}
+use Rattle.rules.specs.Sheets.{Sheet, Workings, bonds, relation_at, bad_coefs, bad_relation, unfit_values, unfit}
 use Rattle.rules.specs.Gripping.{counted}
 use Rattle.rules.specs.Pulling.{Placing, proposed}
-use Rattle.rules.specs.Calls.{Pulled, pull_by, unfit_pull, pulling}
+use Rattle.rules.specs.Calls.{Pulled, pull_by, pulling}
 use Rattle.pulls.specs.Rows.{Fine}
 use Rattle.pulls.specs.Steps.{exactly}
 

@@ -1,5 +1,5 @@
 -- What a row carries, term by term.
-use Rattle.std.proofs.Common.{◌≡◌, ℕ, ◌+◌, ◌*◌, ◌^◌, ◌<◌, ◌≤◌, false, List, [], length, get_or, ℤ, pos, ◌+ℤ◌, ◌*ℤ◌, nat_abs, sym, refl, ap, ◌∙◌, subst, ap₂, arith}
+use Rattle.std.proofs.Common.{◌≡◌, ℕ, ◌+◌, ◌*◌, ◌^◌, ◌<◌, ◌≤◌, false, List, [], length, get_or, ℤ, pos, ◌+ℤ◌, ◌*ℤ◌, nat_abs, sym, refl, ap, ◌∙◌, subst, arith}
 use Rattle.whole.specs.Lists.{at, coord}
 use Rattle.whole.specs.Sums.{sum}
 use Rattle.whole.proofs.Sizes.{product-≤, sum-≤}
@@ -7,7 +7,7 @@ use Rattle.whole.proofs.Tests.{any_false, above_false}
 use Rattle.rules.specs.Values.{Coords}
 use Rattle.rules.specs.Pulling.{some_above}
 use Rattle.sheets.proofs.Gaps.{sum_more}
-use Rattle.pulls.specs.Steps.{plus, carried_at}
+use Rattle.pulls.specs.Steps.{plus}
 use Rattle.pulls.proofs.Adding.{added}
 
 pub no_sum : (f : ℕ → ℤ) → pos 0 ≡ sum 0 f

@@ -1,5 +1,5 @@
 -- The relations that count, by their numbers, and their residuals.
-use Rattle.std.proofs.Common.{◌≡◌, ℕ, ◌<◌, List, [], map, length, get_or, take, ℤ, pos, ◌-ℤ◌, ◌*ℤ◌, sym, refl, ap, ◌∙◌, subst, ap₂, arith, get_or-take}
+use Rattle.std.proofs.Common.{◌≡◌, ℕ, ◌<◌, List, [], length, get_or, ℤ, pos, ◌-ℤ◌, ◌*ℤ◌, sym, ap, ◌∙◌, subst, ap₂, get_or-take}
 use Rattle.std.proofs.lemmas.List.{length-map, get_or-map}
 use Rattle.records.specs.declared.relation.Relation.{Relation}
 use Rattle.records.specs.declared.role.Role.{Role}
@@ -10,7 +10,7 @@ use Rattle.whole.proofs.Sums.{sum_ext}
 use Rattle.rules.specs.Values.{Coords}
 use Rattle.rules.specs.Sheets.{Bond, bond, no_bond, relation_at}
 use Rattle.rules.specs.Gripping.{role, coef}
-use Rattle.rules.specs.Pulling.{if_held, if_moving, const, residuals}
+use Rattle.rules.specs.Pulling.{if_held, if_moving, residuals}
 use Rattle.pulls.specs.Steps.{residual_at}
 use Rattle.pulls.specs.Rows.{chosen}
 

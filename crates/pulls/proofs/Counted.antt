@@ -1,6 +1,6 @@
 -- The relations that count are those with the numbers that count.
-use Rattle.std.proofs.Common.{◌≡◌, ℕ, zero, suc, ◌<◌, ◌≤◌, Bool, true, false, cond, List, [], ◌∷◌, ◌++◌, map, length, get_or, take, ℤ, sym, refl, ap, ◌∙◌, subst, ap₂, arith, get_or-take}
-use Rattle.std.proofs.lemmas.List.{map-append, get_or_append_left}
+use Rattle.std.proofs.Common.{◌≡◌, ℕ, zero, suc, ◌<◌, ◌≤◌, Bool, true, false, cond, List, [], ◌∷◌, ◌++◌, map, length, get_or, take, sym, refl, ap, ◌∙◌, subst, ap₂, arith, get_or-take}
+use Rattle.std.proofs.lemmas.List.{map-append}
 use Rattle.records.specs.declared.relation.Relation.{Relation}
 use Rattle.records.specs.declared.relation.Mark.TheVariants.{Idle}
 use Rattle.records.specs.declared.role.Role.{Role}

@@ -1,9 +1,9 @@
 -- Common divisors, a list's numbers taken up one at a time.
-use Rattle.std.proofs.Common.{◌≡◌, ℕ, zero, suc, ◌%◌, ◌<◌, ◌≤◌, List, [], ◌∷◌, ◌++◌, ℤ, pos, nat_abs, fold, sym, refl, ap, ◌∙◌, subst, arith}
+use Rattle.std.proofs.Common.{◌≡◌, ℕ, zero, suc, ◌%◌, ◌<◌, ◌≤◌, List, [], ◌∷◌, ◌++◌, ℤ, nat_abs, refl, ap, ◌∙◌, arith}
 use native.Mathlib.Nat.{le_of_dvd, dvd_refl, dvd_trans, pos_of_dvd_of_pos}
 use Prim.Native.Nat.{◌∣◌}
 use Rattle.whole.specs.Gcd.{gcd, gcd_all}
-use Rattle.whole.proofs.Divisors.{gcd-left, gcd-right, gcd-step, gcd_all-divides}
+use Rattle.whole.proofs.Divisors.{gcd-left, gcd-step}
 use Rattle.pulls.specs.Steps.{divisor_from}
 
 pub gcd-0 : (a : ℕ) → gcd 0 a ≡ a

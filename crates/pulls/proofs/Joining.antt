@@ -1,5 +1,5 @@
 -- Lists of numerators, all coordinates together.
-use Rattle.std.proofs.Common.{◌≡◌, ℕ, zero, suc, ◌+◌, ◌<◌, List, [], ◌∷◌, ◌++◌, length, get_or, take, ℤ, sym, refl, ap, ◌∙◌, append_assoc, append-nil, add-one, arith}
+use Rattle.std.proofs.Common.{◌≡◌, ℕ, zero, suc, ◌+◌, ◌<◌, List, [], ◌∷◌, ◌++◌, length, get_or, take, ℤ, sym, ap, ◌∙◌, append_assoc, append-nil, add-one, arith}
 use Rattle.rules.specs.Values.{Coords}
 use Rattle.rules.specs.Pulling.{joined}
 

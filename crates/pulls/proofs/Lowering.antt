@@ -1,5 +1,5 @@
 -- Diagonal numbers and what their rows carry, in lowest terms.
-use Rattle.std.proofs.Common.{◌≡◌, ℕ, zero, suc, ◌+◌, ◌/◌, ◌<◌, ◌≤◌, Bool, true, false, cond, not, ◌&&◌, eqb, ltb, List, [], ◌∷◌, map, length, get_or, ℤ, pos, negsuc, ◌*ℤ◌, nat_abs, Ok, Err, Result, sym, refl, ap, ◌∙◌, subst, ap₂, true≢false, arith}
+use Rattle.std.proofs.Common.{◌≡◌, ℕ, zero, suc, ◌+◌, ◌/◌, ◌<◌, Bool, true, false, cond, not, ◌&&◌, eqb, ltb, List, [], ◌∷◌, length, get_or, ℤ, pos, negsuc, ◌*ℤ◌, nat_abs, Ok, Err, Result, sym, refl, ap, ◌∙◌, ap₂, true≢false, arith}
 use native.Mathlib.Nat.{zero-div}
 use lib.Signed.{quot_z}
 use Rattle.std.proofs.lemmas.Bool.{lt-ltb, ne_eqb}
@@ -9,9 +9,9 @@ use Rattle.records.specs.declared.refusal.Refusal.TheVariants.{Impossible}
 use Rattle.whole.specs.Lists.{tab, at, coord}
 use Rattle.whole.specs.Sums.{sum}
 use Rattle.whole.specs.Tests.{any, above, nonzero}
-use Rattle.whole.proofs.Lists.{tab-length, tab_ext, tab_of, get_or-tab, at-tab}
+use Rattle.whole.proofs.Lists.{tab-length, tab_ext, get_or-tab, at-tab}
 use Rattle.whole.proofs.Sums.{sum_ext}
-use Rattle.whole.proofs.Tests.{any_false, any_ext, nonzero_false, above_false}
+use Rattle.whole.proofs.Tests.{any_false, any_ext, nonzero_false}
 use Rattle.linear.specs.Elimination.{Grid, entry, right_half}
 use Rattle.rules.specs.Values.{Coords}
 use Rattle.rules.specs.Gripping.{is_needed}

@@ -1,13 +1,13 @@
 -- The common multiple taken up one number at a time, and a row's multiplier.
-use Rattle.std.proofs.Common.{◌≡◌, ℕ, zero, suc, ◌+◌, ◌*◌, ◌/◌, ◌^◌, ◌<◌, ◌≤◌, Bool, true, false, cond, ◌&&◌, ◌||◌, ltb, leb, List, [], length, get_or, replicate, ℤ, pos, ◌+ℤ◌, ◌*ℤ◌, nat_abs, Some, None, Ok, Err, Option, Result, sym, refl, ap, ◌∙◌, subst, ap₂, true≢false, le_trans, div-le_self, add-one, arith}
+use Rattle.std.proofs.Common.{◌≡◌, ℕ, zero, suc, ◌+◌, ◌/◌, ◌<◌, ◌≤◌, Bool, true, false, cond, ◌&&◌, ◌||◌, ltb, leb, List, length, get_or, replicate, ℤ, pos, ◌*ℤ◌, nat_abs, Some, None, Ok, Err, Option, Result, sym, refl, ap, ◌∙◌, subst, ap₂, true≢false, le_trans, add-one, arith}
 use native.Mathlib.Nat.{le_of_dvd}
 use native.Mathlib.Decide.{dec_lt}
 use lib.IntN.{+ℤ_idl}
-use Rattle.std.proofs.lemmas.Bool.{lt-ltb, le-ltb, ltb-true, ltb-false, leb-true, leb-false}
+use Rattle.std.proofs.lemmas.Bool.{lt-ltb, le-ltb, ltb-true, leb-true, leb-false}
 use Rattle.records.specs.Outcomes.{guard}
 use Rattle.records.specs.declared.refusal.Refusal.{Refusal}
 use Rattle.records.specs.declared.refusal.Refusal.TheVariants.{TooFine}
-use Rattle.whole.specs.Lists.{tab, at}
+use Rattle.whole.specs.Lists.{at}
 use Rattle.whole.specs.Tests.{any, above}
 use Rattle.whole.specs.Gcd.{lcm}
 use Rattle.whole.proofs.Lists.{at-tab}

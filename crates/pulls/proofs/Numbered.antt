@@ -1,7 +1,7 @@
 -- The numbers of the relations that count, as a pull reads them.
-use Rattle.std.proofs.Common.{◌≡◌, ℕ, ◌+◌, ◌-◌, ◌<◌, ◌≤◌, min, List, [], ◌++◌, length, take, drop, replicate, sym, refl, ap, ◌∙◌, subst, ap₂, zero-add, arith}
+use Rattle.std.proofs.Common.{◌≡◌, ℕ, ◌+◌, ◌-◌, ◌≤◌, min, List, ◌++◌, length, take, drop, replicate, ap, ◌∙◌, ap₂, arith}
 use lib.Seq.{take-append-le}
-use Rattle.std.proofs.lemmas.List.{length-take-le, take_all, length-append}
+use Rattle.std.proofs.lemmas.List.{length-take-le, take_all}
 use Rattle.records.specs.declared.relation.Relation.{Relation}
 use Rattle.records.specs.declared.role.Role.{Role}
 use Rattle.rules.specs.Values.{written}

@@ -1,5 +1,5 @@
 -- One parameter's numerator.
-use Rattle.std.proofs.Common.{◌≡◌, ℕ, ◌*◌, ◌^◌, ◌<◌, ◌≤◌, Bool, true, false, not, List, [], ◌∷◌, length, get_or, replicate, ℤ, pos, ◌+ℤ◌, ◌*ℤ◌, nat_abs, sym, refl, ap, ◌∙◌, subst, ap₂, true≢false, arith}
+use Rattle.std.proofs.Common.{◌≡◌, ℕ, ◌<◌, ◌≤◌, false, not, List, [], ◌∷◌, length, get_or, replicate, ℤ, pos, ◌+ℤ◌, ◌*ℤ◌, nat_abs, sym, refl, ap, subst, true≢false, arith}
 use lib.IntN.{+ℤ_idl, *ℤ_comm}
 use Rattle.whole.specs.Lists.{tab, at, coord}
 use Rattle.whole.proofs.Sums.{sum_ext}

@@ -1,10 +1,10 @@
 -- Lists written from their first place on.
-use Rattle.std.proofs.Common.{◌≡◌, ℕ, zero, suc, ◌+◌, ◌-◌, ◌<◌, ◌≤◌, List, [], ◌∷◌, ◌++◌, map, length, get_or, take, drop, set, replicate, ℤ, pos, sym, refl, ap, ◌∙◌, ap₂, append-nil, zero-add, arith}
+use Rattle.std.proofs.Common.{◌≡◌, ℕ, zero, suc, ◌+◌, ◌-◌, ◌<◌, ◌≤◌, List, [], ◌∷◌, ◌++◌, length, get_or, take, drop, set, replicate, ℤ, pos, sym, refl, ap, ◌∙◌, ap₂, append-nil, zero-add, arith}
 use lib.Seq.{paste}
-use Rattle.std.proofs.lemmas.List.{length-map, take_all, get_or-append_right, get_or-drop, length-take-le, map-set}
-use Rattle.std.proofs.lemmas.List.Edits.{paste_more, paste_none}
+use Rattle.std.proofs.lemmas.List.{take_all, get_or-append_right, get_or-drop, length-take-le}
+use Rattle.std.proofs.lemmas.List.Edits.{paste_more}
 use Rattle.whole.specs.Lists.{tab, at}
-use Rattle.whole.proofs.Lists.{tab-length, tab_ext, tab_of}
+use Rattle.whole.proofs.Lists.{tab_ext, tab_of}
 use Rattle.rules.specs.Values.{written}
 
 drop_all : {X : Type 0} (n : ℕ) (xs : List X) → length xs ≤ n → drop n xs ≡ []

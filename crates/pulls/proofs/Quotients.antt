@@ -1,5 +1,5 @@
 -- A quotient of a number of 64 signed bits by one above 0 has 64 signed bits.
-use Rattle.std.proofs.Common.{◌≡◌, ℕ, zero, suc, ◌/◌, ◌^◌, ◌<◌, ◌≤◌, ℤ, pos, negsuc, neg_ℤ, ◌≤ℤ◌, div-le_self, arith, w64, SFits}
+use Rattle.std.proofs.Common.{ℕ, zero, suc, ◌/◌, ◌^◌, ◌<◌, ◌≤◌, ℤ, pos, negsuc, neg_ℤ, ◌≤ℤ◌, div-le_self, arith, w64, SFits}
 use lib.Signed.{quot_z}
 use borrow.Author.Differences.{ints}
 

@@ -1,13 +1,12 @@
 -- A placing in lowest terms, and its refusals.
-use Rattle.std.proofs.Common.{◌≡◌, ℕ, zero, suc, ◌*◌, ◌/◌, ◌<◌, ◌≤◌, Bool, true, false, ◌||◌, ltb, List, ◌∷◌, length, ℤ, pos, nat_abs, Ok, Err, Result, sym, refl, ap, ◌∙◌, subst, ap₂, div-le_self, arith}
+use Rattle.std.proofs.Common.{◌≡◌, ℕ, zero, suc, ◌*◌, ◌/◌, ◌<◌, ◌≤◌, Bool, true, false, ◌||◌, List, length, pos, Ok, Err, Result, sym, ap, ◌∙◌, subst, ap₂, arith}
 use native.Mathlib.Nat.{mul-div_cancel'}
 use Prim.Native.Nat.{◌∣◌}
-use lib.Signed.{quot_z, lt_z}
+use lib.Signed.{quot_z}
 use Rattle.std.proofs.lemmas.Bool.{lt-ltb, le-ltb}
 use Rattle.records.specs.Outcomes.{guard}
 use Rattle.records.specs.declared.refusal.Refusal.{Refusal}
 use Rattle.records.specs.declared.refusal.Refusal.TheVariants.{TooFine, OffSheet}
-use Rattle.whole.specs.Gcd.{gcd_all}
 use Rattle.whole.specs.Lists.{coord}
 use Rattle.rules.specs.Values.{Coords, grid}
 use Rattle.rules.specs.Sheets.{bad_values, bad_denominator, unfit_values}

@@ -20,10 +20,9 @@ use Rattle.whole.proofs.Sums.{sum_ext}
 use Rattle.whole.proofs.Tests.{any_ext, any_false, none_any, nonzero_false}
 use Rattle.linear.specs.Elimination.{Grid, entry}
 use Rattle.rules.specs.Values.{Coords}
-use Rattle.rules.specs.Sheets.{Bond, relation_at}
+use Rattle.rules.specs.Sheets.{relation_at}
 use Rattle.rules.specs.Gripping.{role, coef, is_needed}
-use Rattle.rules.specs.Pulling.{Placing, divisors, lowered, lowered_sums, common, multipliers, numerator, numerators, lowest, settled, some_above, some_needed_above, too_fine, contradicts, solved}
-use Rattle.pulls.specs.Steps.{shift_at}
+use Rattle.rules.specs.Pulling.{Placing, divisors, lowered, lowered_sums, common, multipliers, numerator, numerators, lowest, settled, some_above, some_needed_above, contradicts, solved}
 use Rattle.pulls.specs.Rows.{chosen}
 use Rattle.pulls.specs.Multiple.{multiple, times, strays, multiplied, all_multiplied}
 use Rattle.pulls.specs.Finish.{numerators_by, finished}

@@ -1,7 +1,7 @@
 -- The multipliers that stay are within their limit.
-use Rattle.std.proofs.Common.{◌≡◌, ℕ, ◌/◌, ◌<◌, ◌≤◌, Bool, true, false, cond, ◌&&◌, ◌||◌, ltb, List, [], length, get_or, ℤ, pos, ◌*ℤ◌, sym, refl, ap, ◌∙◌, subst, arith}
+use Rattle.std.proofs.Common.{◌≡◌, ℕ, ◌/◌, ◌<◌, Bool, true, false, cond, ◌&&◌, ◌||◌, ltb, List, [], length, get_or, pos, ◌*ℤ◌, refl, ap, ◌∙◌, arith}
 use Rattle.std.proofs.lemmas.Bool.{or_parts, ltb-false}
-use Rattle.whole.specs.Lists.{tab, at, coord}
+use Rattle.whole.specs.Lists.{at, coord}
 use Rattle.whole.specs.Tests.{any, above}
 use Rattle.whole.proofs.Lists.{get_or-tab, at-tab}
 use Rattle.whole.proofs.Tests.{any_false, none_any, any_ext}

@@ -1,5 +1,5 @@
 -- The numbers of the relations that count, one relation further.
-use Rattle.std.proofs.Common.{◌≡◌, ℕ, suc, ◌+◌, ◌<◌, ◌≤◌, min, Bool, true, false, cond, List, [], ◌∷◌, ◌++◌, length, get_or, take, drop, set, replicate, sym, refl, ap, ◌∙◌, ap₂, zero-add, add-one, arith, length-append}
+use Rattle.std.proofs.Common.{◌≡◌, ℕ, ◌+◌, ◌<◌, ◌≤◌, min, Bool, true, false, cond, List, [], ◌∷◌, ◌++◌, length, drop, set, replicate, sym, refl, ap, ◌∙◌, ap₂, zero-add, add-one, arith, length-append}
 use lib.Seq.{paste, take-append-le, get_or_at}
 use Rattle.std.proofs.lemmas.List.Edits.{paste_more}
 use Rattle.records.specs.declared.relation.Relation.{Relation}

@@ -1,5 +1,5 @@
 -- A tally, one index further.
-use Rattle.std.proofs.Common.{◌≡◌, ℕ, suc, ◌+◌, Bool, true, false, sym, refl, ap, ◌∙◌, add-one}
+use Rattle.std.proofs.Common.{◌≡◌, ℕ, suc, ◌+◌, Bool, true, false, sym, ap, ◌∙◌, add-one}
 use Rattle.whole.specs.Tests.{tally}
 
 pub tally_more : (i : ℕ) (p : ℕ → Bool) → p i ≡ true → tally (i + 1) p ≡ tally i p + 1

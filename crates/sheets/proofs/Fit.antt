@@ -1,11 +1,10 @@
 -- What it means that a sheet and its lists fit.
-use Rattle.std.proofs.Common.{◌≡◌, ℕ, ◌*◌, ◌<◌, ◌≤◌, Bool, false, ◌||◌, ltb, List, map, length, get_or, ℤ, pos, nat_abs, ap, ◌∙◌, arith}
+use Rattle.std.proofs.Common.{◌≡◌, ℕ, ◌<◌, ◌≤◌, false, ◌||◌, ltb, List, map, length, ℤ, nat_abs, arith}
 use lib.Seq.{paste}
 use Rattle.std.proofs.lemmas.List.{length-map, map-append, take-map, drop-map}
 use Rattle.std.proofs.lemmas.Bool.{ltb-false, or_parts}
 use Rattle.records.specs.declared.relation.Relation.{Relation}
 use Rattle.whole.specs.Lists.{at, coord}
-use Rattle.whole.specs.Tests.{any, above}
 use Rattle.whole.proofs.Tests.{any_false, above_false}
 use Rattle.rules.specs.Values.{Coords}
 pub use Rattle.rules.proofs.Fit.{FitValues, fit_values}

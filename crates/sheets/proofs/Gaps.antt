@@ -1,18 +1,16 @@
 -- The sum of coefficient × value, term by term.
-use Rattle.std.proofs.Common.{◌≡◌, ℕ, zero, suc, ◌+◌, ◌*◌, ◌^◌, ◌<◌, ◌≤◌, Bool, true, false, cond, not, List, [], map, length, get_or, take, replicate, ℤ, pos, negsuc, ◌+ℤ◌, ◌-ℤ◌, ◌*ℤ◌, neg_ℤ, nat_abs, sym, refl, ap, ◌∙◌, subst, ap₂, add-one, arith, get_or-take}
+use Rattle.std.proofs.Common.{◌≡◌, ℕ, zero, suc, ◌+◌, ◌*◌, ◌<◌, ◌≤◌, cond, List, [], length, get_or, replicate, ℤ, pos, negsuc, ◌+ℤ◌, ◌-ℤ◌, ◌*ℤ◌, neg_ℤ, nat_abs, sym, refl, ap, ◌∙◌, subst, ap₂, add-one, arith, get_or-take}
 use borrow.Author.Differences.{ints}
 use Rattle.std.proofs.lemmas.List.{length-replicate}
 use Rattle.whole.specs.Lists.{at, coord}
 use Rattle.whole.specs.Sums.{sum}
-use Rattle.whole.specs.Tests.{any, above, is_zero, nonzero, differ}
+use Rattle.whole.specs.Tests.{above, nonzero, differ}
 use Rattle.whole.proofs.Sizes.{nat_abs_neg}
 use Rattle.whole.proofs.Integers.{neg-*}
 use Rattle.whole.proofs.Sums.{sum_ext}
-use Rattle.whole.proofs.Tests.{any_ext}
 use Rattle.kinds.specs.Coords.{plus_scaled}
 use Rattle.kinds.specs.Outcomes.{all_fit}
 use Rattle.rules.specs.Sheets.{bond}
-use Rattle.rules.specs.Calls.{untrue}
 use Rattle.sheets.specs.Gap.{gap_at}
 use Rattle.sheets.proofs.Sizes.{beyond-above}
 use Rattle.sheets.proofs.Combining.{Within, within_all, combined-at, combined-size}

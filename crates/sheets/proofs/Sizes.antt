@@ -1,5 +1,5 @@
 -- Limits on numbers and on the first values of a list.
-use Rattle.std.proofs.Common.{◌≡◌, ℕ, ◌-◌, ◌<◌, ◌≤◌, Bool, true, false, List, [], map, length, get_or, take, ℤ, pos, nat_abs, sym, refl, ap, ◌∙◌, ap₂, arith, get_or-take}
+use Rattle.std.proofs.Common.{◌≡◌, ℕ, ◌-◌, ◌<◌, ◌≤◌, Bool, true, false, List, [], map, length, get_or, take, ℤ, pos, nat_abs, sym, refl, ap, ◌∙◌, arith, get_or-take}
 use Rattle.std.proofs.lemmas.List.{take-map, length-take-le}
 use Rattle.whole.specs.Lists.{coord}
 use Rattle.whole.specs.Tests.{any, above}

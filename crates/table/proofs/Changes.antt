@@ -1,10 +1,10 @@
 -- The parts of a row's change, put together.
-use Rattle.std.proofs.Common.{◌≡◌, ℕ, zero, suc, ◌-◌, ◌<◌, ◌≤◌, List, [], ◌∷◌, ◌++◌, map, length, take, drop, ℤ, pos, ◌-ℤ◌, ◌*ℤ◌, nat_abs, sym, refl, ap, ◌∙◌, ap₂, arith}
+use Rattle.std.proofs.Common.{◌≡◌, ℕ, zero, suc, ◌-◌, ◌<◌, ◌≤◌, List, [], ◌∷◌, ◌++◌, map, take, drop, ℤ, pos, ◌*ℤ◌, nat_abs, sym, refl, ap, ◌∙◌, ap₂, arith}
 use lib.IntN.{zero-*ℤ}
 use lib.Signed.{quot_z}
 use Rattle.std.proofs.lemmas.List.{take_at, drop_at}
 use Rattle.whole.specs.Gcd.{gcd_all}
-use Rattle.whole.specs.Lists.{tab, at}
+use Rattle.whole.specs.Lists.{at}
 use Rattle.whole.proofs.Divisors.{gcd_all_is}
 use Rattle.whole.proofs.Integers.{one-*}
 use Rattle.whole.proofs.Lists.{tab-length}

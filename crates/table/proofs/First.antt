@@ -1,19 +1,17 @@
 -- The first table.
-use Rattle.std.proofs.Common.{◌≡◌, ℕ, ◌+◌, ◌-◌, ◌*◌, ◌<◌, ◌≤◌, Bool, true, false, cond, eqb, ltb, List, [], ◌++◌, length, get_or, drop, set, replicate, ℤ, pos, ◌*ℤ◌, nat_abs, sym, refl, ap, ◌∙◌, ⊎_elim, arith}
+use Rattle.std.proofs.Common.{◌≡◌, ℕ, ◌+◌, ◌-◌, ◌<◌, ◌≤◌, Bool, true, false, cond, eqb, ltb, List, [], ◌++◌, length, drop, set, replicate, ℤ, pos, ◌*ℤ◌, nat_abs, sym, ap, ◌∙◌, ⊎_elim, arith}
 use native.Mathlib.Decide.{ℕ_discrete}
-use Rattle.std.proofs.lemmas.List.{get_or-set_same, get_or-set_other, get_or_append_left, get_or-append_right, get_or-drop, get_or-replicate, length-append, length-drop, length-replicate}
+use Rattle.std.proofs.lemmas.List.{get_or-set_same, get_or-set_other, get_or_append_left, get_or-append_right, get_or-drop, get_or-replicate, length-append, length-drop}
 use Rattle.std.proofs.lemmas.Bool.{lt-ltb, le-ltb, eq-eqb, ne_eqb, cases_lt}
-use Rattle.whole.specs.Lists.{tab, at, coord}
-use Rattle.whole.specs.Sums.{sum}
-use Rattle.whole.specs.Tests.{any, above}
+use Rattle.whole.specs.Lists.{tab, at}
+use Rattle.whole.specs.Tests.{above}
 use Rattle.whole.proofs.Lists.{tab-length, at-tab, get_or-tab, tab_ext}
 use Rattle.whole.proofs.Sizes.{product-≤, sum-≤}
 use Rattle.whole.proofs.Tests.{none_any, within-above}
-use Rattle.linear.specs.Elimination.{Grid, entry, unit, start, beyond, table_limit}
+use Rattle.linear.specs.Elimination.{unit, start, beyond, table_limit}
 use Rattle.linear.specs.Gram.{gram}
 use Rattle.table.specs.declared.row.Row.{Row}
 use Rattle.table.specs.declared.table.Table.{Table}
-use Rattle.table.specs.Limits.{Within}
 use Rattle.table.specs.Tables.{no_row, cell, grid}
 
 -- row i is written in its left half, and has its 1 in place m + i

@@ -1,9 +1,9 @@
 -- A table's numbers and its grid.
-use Rattle.std.proofs.Common.{◌≡◌, ℕ, ◌+◌, ◌<◌, ◌≤◌, false, List, [], get_or, ℤ, nat_abs, sym, ap, ◌∙◌, arith, w64, SFits}
+use Rattle.std.proofs.Common.{◌≡◌, ℕ, ◌+◌, ◌<◌, ◌≤◌, false, [], get_or, nat_abs, ap, ◌∙◌, arith, w64, SFits}
 use Rattle.whole.specs.Lists.{tab, at}
 use Rattle.whole.proofs.Lists.{get_or-tab, at-tab}
 use Rattle.whole.proofs.Sizes.{fits}
-use Rattle.linear.specs.Elimination.{Grid, entry, beyond, table_limit}
+use Rattle.linear.specs.Elimination.{entry, beyond, table_limit}
 use Rattle.linear.proofs.Limits.{entry-≤}
 use Rattle.table.specs.declared.table.Table.{Table}
 use Rattle.table.specs.Tables.{cell, grid}

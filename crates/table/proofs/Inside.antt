@@ -1,5 +1,5 @@
 -- What is not outside the limits is within each of them.
-use Rattle.std.proofs.Common.{◌≡◌, ℕ, ◌<◌, ◌≤◌, Bool, false, ◌||◌, ltb, List, [], get_or, ℤ, nat_abs}
+use Rattle.std.proofs.Common.{◌≡◌, ℕ, ◌<◌, ◌≤◌, false, ltb, List, [], get_or, ℤ}
 use Rattle.std.proofs.lemmas.Bool.{or_parts, ltb-false}
 use Rattle.whole.specs.Lists.{at, coord}
 use Rattle.whole.specs.Tests.{any, above}

@@ -1,10 +1,9 @@
 -- What the loops over steps and rows find in the table, as its bits show it.
-use Rattle.std.proofs.Common.{◌≡◌, ℕ, ◌+◌, ◌<◌, ◌≤◌, Bool, true, false, ◌||◌, eqb, List, [], length, get_or, set, ℤ, nat_abs, Ok, Err, sym, refl, ap, ◌∙◌, subst, ap₂, arith, w64, SFits, to_z, of_z}
+use Rattle.std.proofs.Common.{◌≡◌, ℕ, ◌+◌, ◌<◌, ◌≤◌, Bool, true, false, ◌||◌, eqb, length, get_or, set, ℤ, nat_abs, Ok, Err, sym, ap, ◌∙◌, subst, ap₂, arith, w64, SFits, to_z, of_z}
 use Rattle.std.proofs.lemmas.List.{get_or-set_same}
 use Rattle.std.proofs.lemmas.Int.{to_z-of_z}
 use Rattle.records.specs.declared.refusal.Refusal.TheVariants.{TableTooLarge}
-use Rattle.whole.specs.Lists.{tab, at}
-use Rattle.whole.specs.Tests.{any, is_zero}
+use Rattle.whole.specs.Tests.{is_zero}
 use Rattle.whole.proofs.Lists.{tab-length}
 use Rattle.linear.specs.Elimination.{Grid, entry, new_row, step, beyond, table_limit, within_limit, eliminated}
 use Rattle.linear.proofs.Limits.{accepted}

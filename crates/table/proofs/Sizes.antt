@@ -1,15 +1,13 @@
 -- Sizes of the numbers of a step.
-use Rattle.std.proofs.Common.{◌≡◌, ℕ, zero, suc, ◌+◌, ◌*◌, ◌/◌, ◌^◌, ◌<◌, ◌≤◌, List, [], ◌∷◌, ℤ, pos, negsuc, ◌-ℤ◌, ◌*ℤ◌, neg_ℤ, nat_abs, ◌<ℤ◌, fold, sym, refl, ap, ◌∙◌, ap₂, div-le_self, arith, w64, SFits, to_z, of_z}
+use Rattle.std.proofs.Common.{ℕ, zero, suc, ◌/◌, ◌<◌, ◌≤◌, List, [], ◌∷◌, ℤ, pos, negsuc, ◌-ℤ◌, ◌*ℤ◌, neg_ℤ, nat_abs, ◌<ℤ◌, fold, div-le_self, arith, w64, SFits}
 use native.Mathlib.Nat.{le_of_dvd}
 use lib.Signed.{quot_z, mag}
 use borrow.Author.Differences.{ints}
-use Rattle.std.proofs.lemmas.Int.{to_z-of_z}
 use Rattle.whole.specs.Gcd.{gcd, gcd_all}
 use Rattle.whole.specs.Lists.{tab, at}
 use Rattle.whole.proofs.Divisors.{gcd-right}
 use Rattle.whole.proofs.Sizes.{product-≤, nat_abs--, fits}
 use Rattle.linear.specs.Elimination.{table_limit}
-use Rattle.table.specs.Rows.{mixed}
 
 -- twice the limit squared
 abbrev pub room : ℕ

@@ -1,16 +1,15 @@
 -- Whole steps of the elimination.
-use Rattle.std.proofs.Common.{◌≡◌, ℕ, zero, suc, ◌+◌, ◌<◌, ◌≤◌, Bool, true, false, cond, ◌||◌, List, [], length, get_or, ℤ, pos, Ok, Err, Result, sym, refl, ap, ◌∙◌, add-one, arith}
+use Rattle.std.proofs.Common.{◌≡◌, ℕ, zero, suc, ◌+◌, ◌<◌, ◌≤◌, Bool, true, false, cond, [], length, get_or, pos, Ok, Err, sym, ap, ◌∙◌, add-one, arith}
 use native.Mathlib.Decide.{ℕ_discrete}
 use Rattle.std.proofs.lemmas.Bool.{lt-ltb}
 use Rattle.records.specs.declared.refusal.Refusal.{Refusal}
 use Rattle.records.specs.declared.refusal.Refusal.TheVariants.{TableTooLarge}
 use Rattle.records.specs.Outcomes.{guard, onward}
 use Rattle.whole.specs.Lists.{tab, at}
-use Rattle.whole.specs.Tests.{any, above, is_zero}
+use Rattle.whole.specs.Tests.{any, is_zero}
 use Rattle.whole.proofs.Lists.{get_or-tab, tab_ext, tab_of}
 use Rattle.whole.proofs.Tests.{any_ext}
-use Rattle.linear.specs.Elimination.{Grid, entry, new_row, step, beyond, table_limit, within_limit, eliminated}
-use Rattle.linear.proofs.Limits.{accepted}
+use Rattle.linear.specs.Elimination.{Grid, entry, new_row, step, beyond, within_limit, eliminated}
 use Rattle.table.specs.declared.table.Table.{Table}
 use Rattle.table.specs.Rows.{row_beyond}
 use Rattle.table.specs.Tables.{cell, grid}

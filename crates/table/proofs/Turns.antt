@@ -1,5 +1,5 @@
 -- Within a step: the rows before row i are changed already, the others still as they were.
-use Rattle.std.proofs.Common.{◌≡◌, ℕ, ◌+◌, ◌<◌, ◌≤◌, Bool, true, false, cond, ◌||◌, eqb, ltb, List, [], ◌++◌, map, length, get_or, drop, set, ℤ, pos, ◌-ℤ◌, ◌*ℤ◌, sym, refl, ap, ◌∙◌, ap₂, ⊎_elim, arith}
+use Rattle.std.proofs.Common.{◌≡◌, ℕ, ◌+◌, ◌<◌, Bool, true, false, cond, ◌||◌, eqb, ltb, List, [], length, get_or, drop, set, ℤ, pos, ◌-ℤ◌, ◌*ℤ◌, sym, refl, ap, ◌∙◌, ap₂, ⊎_elim, arith}
 use native.Mathlib.Decide.{ℕ_discrete}
 use lib.Signed.{quot_z}
 use Rattle.std.proofs.lemmas.List.{get_or-set_same, get_or-set_other, get_or_append_left, length-map}
@@ -7,14 +7,14 @@ use Rattle.std.proofs.lemmas.Bool.{lt-ltb, le-ltb, cases_lt}
 use Rattle.whole.specs.Gcd.{gcd_all}
 use Rattle.whole.specs.Lists.{tab, at}
 use Rattle.whole.specs.Tests.{any, above, is_zero}
-use Rattle.whole.proofs.Lists.{tab-length, get_or-tab, at-tab, tab_ext, tab_of}
+use Rattle.whole.proofs.Lists.{tab-length, tab_ext}
 use Rattle.whole.proofs.Tests.{any_false, any_ext, some-any}
-use Rattle.linear.specs.Elimination.{Grid, entry, reduced, new_row, step, beyond, table_limit, within_limit}
+use Rattle.linear.specs.Elimination.{Grid, entry, reduced, new_row, beyond, table_limit}
 use Rattle.table.specs.declared.row.Row.{Row}
 use Rattle.table.specs.declared.table.Table.{Table}
 use Rattle.table.specs.Rows.{mixed, changed, row_beyond}
 use Rattle.table.specs.Tables.{no_row, cell, grid}
-use Rattle.table.proofs.Grids.{entry-grid, row_grid}
+use Rattle.table.proofs.Grids.{entry-grid}
 use Rattle.table.proofs.Places.{any_more}
 
 reduced-length : (xs : List ℤ) → length (reduced xs) ≡ length xs

@@ -1,5 +1,5 @@
 -- A table's numbers.
-use Rattle.std.specs.Prelude.{ℕ, ◌+◌, List, [], ℤ, slice_index_or}
+use Rattle.std.specs.Prelude.{ℕ, ◌+◌, [], ℤ, slice_index_or}
 use Rattle.whole.specs.Lists.{tab, at}
 use Rattle.linear.specs.Elimination.{Grid}
 use Rattle.table.specs.declared.row.Row.{Row}

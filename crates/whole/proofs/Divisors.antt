@@ -1,5 +1,5 @@
 -- The greatest common divisor of two numbers, and of a list's.
-use Rattle.std.proofs.Common.{◌≡◌, ℕ, zero, suc, ◌*◌, ◌/◌, ◌%◌, ◌<◌, ◌≤◌, ◌⊎◌, List, [], ◌∷◌, ℤ, pos, negsuc, ◌*ℤ◌, neg_ℤ, nat_abs, fold, refl, ap, ◌∙◌, ⊎_elim, not-suc-le-zero, mod-lt, arith}
+use Rattle.std.proofs.Common.{◌≡◌, ℕ, zero, suc, ◌/◌, ◌%◌, ◌<◌, ◌≤◌, ◌⊎◌, List, [], ◌∷◌, ℤ, pos, negsuc, ◌*ℤ◌, neg_ℤ, nat_abs, fold, refl, ap, ◌∙◌, ⊎_elim, not-suc-le-zero, mod-lt, arith}
 use Prim.Native.Nat.{◌∣◌}
 use native.Mathlib.Nat.{dvd_refl, dvd_trans, dvd-mod_iff, dvd-zero, le_of_dvd, pos_of_dvd_of_pos, mul-div_cancel'}
 use lib.Signed.{quot_z}

@@ -1,5 +1,5 @@
 -- How a card writes a whole number.
-use Rattle.std.specs.Prelude.{◌≡◌, ℕ, suc, ◌<◌, ◌≤◌, List, [], ◌∷◌, length, ℤ, pos, negsuc, Some, None, Option, slice_index_or}
+use Rattle.std.specs.Prelude.{◌≡◌, ℕ, suc, ◌<◌, ◌≤◌, List, ◌∷◌, length, ℤ, pos, negsuc, Some, None, Option, slice_index_or}
 use Rattle.std.specs.Str.Parse.{IsNumeral, digits_value}
 
 -- 1 to 8 decimal digits, and no leading 0 but in 0 itself

@@ -1,5 +1,5 @@
 -- A grip reads the coefficients of the bound relations, and not their constants.
-use Rattle.std.proofs.Common.{◌≡◌, ℕ, zero, suc, ◌<◌, ◌≤◌, Bool, true, false, cond, ◌||◌, ltb, List, [], ◌∷◌, map, length, get_or, take, ℤ, Ok, Result, sym, refl, ap, ◌∙◌, ap₂, arith}
+use Rattle.std.proofs.Common.{◌≡◌, ℕ, zero, suc, ◌<◌, ◌≤◌, Bool, true, false, cond, ◌||◌, ltb, List, [], ◌∷◌, map, length, get_or, take, ℤ, Ok, Result, sym, refl, ap, ◌∙◌, arith}
 use Rattle.std.proofs.lemmas.List.{get_or-take, length-map, length-take-le}
 use Rattle.std.proofs.lemmas.Bool.{or_from, or_parts, le-ltb}
 use Rattle.records.specs.declared.refusal.Refusal.{Refusal}
@@ -12,9 +12,9 @@ use Rattle.whole.specs.Lists.{tab, at}
 use Rattle.whole.proofs.Lists.{map-tab, tab_ext, tab_of}
 use Rattle.whole.specs.Tests.{any}
 use Rattle.whole.proofs.Tests.{any_false, none_any}
-use Rattle.linear.specs.Elimination.{Grid, start, eliminated}
+use Rattle.linear.specs.Elimination.{start, eliminated}
 use Rattle.rules.specs.Calls.{grip_on}
-use Rattle.rules.specs.Gripping.{role, share, shares, bad_roles, counts, counted, coef, table}
+use Rattle.rules.specs.Gripping.{role, share, shares, bad_roles, counts, counted, coef}
 use Rattle.rules.specs.Sheets as rules
 use Rattle.rules.specs.Sheets.{Bond, bond, bonds, no_bond, relation_at, bad_coefs, bad_constant, bad_relation, unfit_relations}
 use Rattle.rules.specs.Values.{Coords}

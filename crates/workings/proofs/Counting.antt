@@ -1,15 +1,13 @@
 -- The relations that count, taken one after the other.
-use Rattle.std.proofs.Common.{◌≡◌, ℕ, zero, suc, ◌+◌, ◌<◌, ◌≤◌, Bool, true, false, cond, not, ◌&&◌, ltb, List, [], ◌∷◌, ◌++◌, map, length, get_or, take, drop, set, ℤ, pos, Ok, Err, Result, sym, refl, ap, ◌∙◌, not-suc-le-zero, arith}
+use Rattle.std.proofs.Common.{◌≡◌, ℕ, zero, suc, ◌+◌, ◌<◌, ◌≤◌, Bool, true, false, cond, not, ◌&&◌, ltb, List, [], ◌∷◌, ◌++◌, map, length, get_or, take, drop, set, ℤ, pos, Ok, Err, sym, refl, ap, ◌∙◌, not-suc-le-zero, arith}
 use Rattle.std.proofs.lemmas.List.{append-nil, get_or-take, map_more, map_push, map-append, take_more_set, take_all, take-append-drop, length-map, length-append, length-take-le}
 use Rattle.std.proofs.lemmas.Bool.{lt-ltb, le-ltb}
-use Rattle.records.specs.declared.refusal.Refusal.{Refusal}
 use Rattle.records.specs.declared.refusal.Refusal.TheVariants.{Crowded}
 use Rattle.records.specs.declared.relation.Mark.TheVariants.{Idle}
 use Rattle.records.specs.declared.relation.Relation.{Relation}
 use Rattle.records.specs.declared.role.Role.{Role}
 use Rattle.records.specs.Outcomes.{guard}
-use Rattle.whole.specs.Lists.{at}
-use Rattle.whole.specs.Tests.{any, nonzero}
+use Rattle.whole.specs.Tests.{nonzero}
 use Rattle.whole.proofs.Tests.{any_ext}
 use Rattle.rules.specs.Gripping.{role, is_held, counts, counted}
 use Rattle.rules.specs.Sheets.{Bond, bond, no_bond, relation_at}

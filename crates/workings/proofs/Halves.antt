@@ -1,5 +1,5 @@
 -- A row's right half, read as a part of its numbers.
-use Rattle.std.proofs.Common.{◌≡◌, ℕ, ◌+◌, ◌-◌, ◌<◌, ◌≤◌, Bool, cond, ltb, List, [], length, get_or, take, drop, ℤ, nat_abs, sym, ap, ◌∙◌, arith}
+use Rattle.std.proofs.Common.{◌≡◌, ℕ, ◌+◌, ◌-◌, ◌<◌, ◌≤◌, Bool, cond, ltb, [], length, get_or, take, drop, nat_abs, sym, ap, ◌∙◌, arith}
 use Rattle.std.proofs.lemmas.Bool.{lt-ltb}
 use Rattle.whole.specs.Lists.{tab, at}
 use Rattle.linear.specs.Elimination.{right_half, table_limit}

@@ -1,5 +1,5 @@
 -- From what was chosen and shared to the finished table.
-use Rattle.std.proofs.Common.{◌≡◌, ℕ, ◌+◌, ◌-◌, ◌<◌, ◌≤◌, Bool, true, false, cond, not, ◌||◌, ltb, ◌↔◌, List, [], map, length, get_or, take, ℤ, pos, ◌*ℤ◌, nat_abs, ◌≤ℤ◌, Ok, Err, Result, sym, refl, ap, ◌∙◌, subst, ap₂, arith}
+use Rattle.std.proofs.Common.{◌≡◌, ℕ, ◌+◌, ◌-◌, ◌<◌, ◌≤◌, Bool, true, false, cond, ltb, ◌↔◌, List, [], map, length, get_or, take, ℤ, pos, ◌*ℤ◌, nat_abs, ◌≤ℤ◌, Ok, Result, sym, refl, ap, ◌∙◌, subst, ap₂, arith}
 use Rattle.std.proofs.lemmas.List.{get_or-take, get_or-map, length-map}
 use Rattle.std.proofs.lemmas.Bool.{or_from, or_parts, le-ltb, ltb-false, ltb-true}
 use Rattle.records.specs.declared.refusal.Refusal.{Refusal}
@@ -9,8 +9,7 @@ use Rattle.records.specs.declared.relation.Relation.{Relation}
 use Rattle.records.specs.declared.role.Role.{Role}
 use Rattle.records.specs.declared.role.Role.TheVariants.{Held}
 use Rattle.records.specs.Outcomes.{guard, onward}
-use Rattle.whole.specs.Lists.{tab, at, coord}
-use Rattle.whole.specs.Sums.{sum}
+use Rattle.whole.specs.Lists.{at, coord}
 use Rattle.whole.specs.Tests.{any, above}
 use Rattle.whole.proofs.Lists.{at-tab, tab_ext}
 use Rattle.whole.proofs.Sums.{sum_ext}
@@ -24,8 +23,7 @@ use Rattle.linear.proofs.Pivots.{pivots}
 use Rattle.linear.proofs.Spares.{spares}
 use Rattle.linear.specs.Gram.{gram}
 use Rattle.rules.specs.Calls.{grip_on}
-use Rattle.rules.specs.Gripping.{role, is_loose, is_pulled, bad_weight, bad_roles, share, shares, counted, coef, table}
-use Rattle.rules.specs.Limits.{most_loose}
+use Rattle.rules.specs.Gripping.{role, is_loose, bad_weight, bad_roles, share, shares, counted, coef, table}
 use Rattle.rules.specs.Sheets as rules
 use Rattle.rules.specs.Sheets.{Bond, bond, no_bond, relation_at, bad_coefs}
 use Rattle.table.specs.declared.table.Table.{Table}

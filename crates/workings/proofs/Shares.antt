@@ -1,5 +1,5 @@
 -- A loose parameter's v(s) is from 1 to 12.
-use Rattle.std.proofs.Common.{◌≡◌, ℕ, ◌<◌, ◌≤◌, Bool, true, false, not, ◌||◌, ◌⊎◌, List, ℤ, pos, nat_abs, ◌≤ℤ◌, sym, ap, subst, ⊎_elim, arith}
+use Rattle.std.proofs.Common.{◌≡◌, ℕ, ◌≤◌, true, false, not, ℤ, pos, nat_abs, ◌≤ℤ◌, sym, subst, ⊎_elim, arith}
 use lib.Signed.{quot_z}
 use borrow.Author.Differences.{ints}
 use Rattle.std.proofs.lemmas.Bool.{or_cases, not-true, not-false, false≢true}

@@ -1,5 +1,5 @@
 -- The relations as a grip reads them.
-use Rattle.std.specs.Prelude.{ℕ, Bool, ◌||◌, List, [], map, length, ℤ, Result, nat_lt}
+use Rattle.std.specs.Prelude.{ℕ, Bool, ◌||◌, List, [], map, length, Result, nat_lt}
 use Rattle.whole.specs.Tests.{any}
 use Rattle.records.specs.declared.refusal.Refusal.{Refusal}
 use Rattle.records.specs.declared.refusal.Refusal.TheVariants.{Unfit}

@@ -1,5 +1,5 @@
 -- What is true of every table that a grip finishes.
-use Rattle.std.specs.Prelude.{◌≡◌, ℕ, ◌<◌, ◌↔◌, List, length, ℤ, pos, ◌≤ℤ◌}
+use Rattle.std.specs.Prelude.{◌≡◌, ℕ, ◌<◌, ◌↔◌, List, length, pos, ◌≤ℤ◌}
 use Rattle.records.specs.declared.role.Role.{Role}
 use Rattle.linear.specs.Elimination.{Grid, entry, start, steps}
 use Rattle.linear.specs.Meaning.{Meaning}

@@ -1,4 +1,4 @@
-use Rattle.std.proofs.Common.{◌≡◌, ℕ, ◌+◌, min, List, [], ◌∷◌, ◌++◌, length, replicate, sym, ap, ◌∙◌, subst, ap₂, arith}
+use Rattle.std.proofs.Common.{◌≡◌, ℕ, ◌+◌, min, List, [], ◌∷◌, ◌++◌, length, replicate, sym, ap, ◌∙◌, ap₂, arith}
 use Rattle.rules.specs.Values.{written}
 use Rattle.roles.specs.Places.{places}
 use Rattle.roles.proofs.Places.{places_more, places_same, length_more, rows_more, rows_full}

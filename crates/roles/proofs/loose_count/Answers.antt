@@ -1,4 +1,4 @@
-use Rattle.std.proofs.Common.{◌≡◌, ℕ, ◌+◌, Bool, sym, ap, ◌∙◌, arith}
+use Rattle.std.proofs.Common.{ℕ, ◌+◌, Bool, sym, ap, ◌∙◌, arith}
 use Rattle.whole.proofs.Tests.{tally-≤}
 use Rattle.rules.specs.Gripping.{role, is_loose}
 use Rattle.roles.proofs.Tallies.{tally_more, tally-same}

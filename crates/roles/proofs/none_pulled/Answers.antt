@@ -1,4 +1,4 @@
-use Rattle.std.proofs.Common.{◌≡◌, not, length, sym, ap, arith}
+use Rattle.std.proofs.Common.{not, length, sym, ap, arith}
 use Rattle.whole.proofs.Tests.{some-any, none_any}
 use Rattle.rules.specs.Gripping.{role, is_pulled}
 use Rattle.roles.proofs.none_pulled.Goals as goal

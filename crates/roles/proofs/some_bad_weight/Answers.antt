@@ -1,4 +1,4 @@
-use Rattle.std.proofs.Common.{◌≡◌, length, sym, arith, below_more}
+use Rattle.std.proofs.Common.{length, sym, arith, below_more}
 use Rattle.whole.proofs.Tests.{some-any, none_any}
 use Rattle.rules.specs.Gripping.{role, bad_weight}
 use Rattle.roles.proofs.some_bad_weight.Goals as goal

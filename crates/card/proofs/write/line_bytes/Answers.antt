@@ -1,7 +1,5 @@
 use Rattle.std.proofs.Common.{vec_items, arith}
-use Rattle.cells.specs.Verbs.{verb_word}
 use Rattle.lines.specs.Lines.{said}
-use Rattle.words.proofs.Appends.{refuses_map}
 use Rattle.card.proofs.Ways.{worded}
 use Rattle.card.proofs.write.line_bytes.Goals as goal
 

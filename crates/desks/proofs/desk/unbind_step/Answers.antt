@@ -1,8 +1,8 @@
-use Rattle.std.proofs.Common.{◌≡◌, List, map, length, ℤ, vec_items, vec_len, sym, refl, ap, ◌∙◌, subst, w64, rules}
+use Rattle.std.proofs.Common.{◌≡◌, length, vec_len, refl, ap, ◌∙◌, subst, w64, rules}
 use Rattle.std.specs.Vec.{with_items}
 use Rattle.std.proofs.lemmas.Int.{to_z-of_z}
 use Rattle.std.proofs.lemmas.List.{with_items_is}
-use Rattle.rules.specs.Calls.{Bound, unbinding}
+use Rattle.rules.specs.Calls.{Bound}
 use Rattle.rules.specs.Runs as runs
 use Rattle.sheets.specs.Shown.{numbers}
 use Rattle.desks.specs.Shown.{in_use, reply_of}

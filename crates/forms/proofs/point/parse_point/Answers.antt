@@ -1,4 +1,4 @@
-use Rattle.std.proofs.Common.{◌+◌, ◌-◌, length, take, drop, sym, subst, arith, w64, SFits, rules}
+use Rattle.std.proofs.Common.{◌+◌, ◌-◌, length, take, drop, subst, arith, w64, SFits, rules}
 use Rattle.std.proofs.lemmas.Int.{ints}
 use Rattle.words.specs.Numbers.{Number}
 use Rattle.forms.specs.Points.{no_comma, around, front_lacks, parts}

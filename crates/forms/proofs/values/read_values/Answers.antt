@@ -1,4 +1,4 @@
-use Rattle.std.proofs.Common.{◌+◌, vec_items, sym, ap, subst}
+use Rattle.std.proofs.Common.{◌+◌, vec_items, sym, subst}
 use Rattle.words.specs.Reading.{left}
 use Rattle.forms.specs.Rows.{Row}
 use Rattle.forms.proofs.Rows.{one_more, no_more}

@@ -1,12 +1,11 @@
-use Rattle.std.proofs.Common.{◌≡◌, ℕ, ◌+◌, Bool, true, false, cond, List, length, take, set, ℤ, sym, ap, ◌∙◌, ap₂, arith}
-use Rattle.records.specs.declared.relation.Mark.{Mark}
+use Rattle.std.proofs.Common.{◌≡◌, ℕ, ◌+◌, cond, List, length, set, ℤ, sym, ap, ◌∙◌, arith}
 use Rattle.records.specs.declared.relation.Mark.TheVariants.{Idle, Needed, Spare}
 use Rattle.records.specs.declared.relation.Relation.{Relation}
 use Rattle.whole.specs.Tests.{nonzero}
 use Rattle.whole.proofs.Lists.{tab-length}
 use Rattle.roles.proofs.Tallies.{tally_more, tally-same}
 use Rattle.rules.specs.Values.{written}
-use Rattle.rules.specs.Sheets.{no_bond, relation_at}
+use Rattle.rules.specs.Sheets.{relation_at}
 use Rattle.rules.specs.Gripping.{counts, with_mark, mark_of}
 use Rattle.workings.specs.Shown.{shown}
 use Rattle.grips.proofs.Marking.{marks, none, bs, length_bs, counts-at, marked_more, written_next}

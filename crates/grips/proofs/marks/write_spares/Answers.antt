@@ -1,4 +1,4 @@
-use Rattle.std.proofs.Common.{◌≡◌, ℕ, ◌+◌, ◌<◌, List, [], ◌∷◌, ◌++◌, length, set, sym, ap, ◌∙◌, ap₂, arith, length-append, rules}
+use Rattle.std.proofs.Common.{◌≡◌, ℕ, ◌+◌, ◌<◌, List, [], ◌∷◌, length, set, sym, ap, ◌∙◌, ap₂, arith, length-append, rules}
 use Rattle.rules.specs.Values.{written}
 use Rattle.grips.specs.Spares.{spare_marks}
 use Rattle.grips.proofs.Listing.{spare_more, spare-same, grows, push_written}

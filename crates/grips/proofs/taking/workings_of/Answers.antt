@@ -1,4 +1,4 @@
-use Rattle.std.proofs.Common.{◌≡◌, ℕ, ◌-◌, map, take, sym, ◌∙◌, ap₂, arith}
+use Rattle.std.proofs.Common.{ℕ, ◌-◌, map, take, sym, ◌∙◌, ap₂, arith}
 use Rattle.workings.specs.Chosen.{gripped}
 use Rattle.sheets.specs.Shown.{numbers}
 use Rattle.sheets.proofs.Fit.{long}

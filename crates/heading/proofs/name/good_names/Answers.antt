@@ -1,6 +1,6 @@
 use Rattle.std.proofs.Common.{sym, refl, ◌∙◌, subst, ⊎_elim, arith}
 use Rattle.std.proofs.lemmas.Bool.{false≢true}
-use Rattle.heading.specs.Names.{Named, Has, texts}
+use Rattle.heading.specs.Names.{Named, texts}
 use Rattle.heading.proofs.Rows.{length-texts, texts-at, good_none, good_more, good_all}
 use Rattle.heading.proofs.name.good_names.Goals as goal
 

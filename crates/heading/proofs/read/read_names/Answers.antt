@@ -1,7 +1,7 @@
-use Rattle.std.proofs.Common.{◌≡◌, ◌<◌, ◌≤◌, [], length, vec_items, vec_len, sym, refl, ap, ◌∙◌, subst, arith, rules}
+use Rattle.std.proofs.Common.{◌≡◌, length, vec_items, vec_len, sym, refl, ap, ◌∙◌, subst, arith, rules}
 use Rattle.std.proofs.lemmas.Bool.{false≢true}
 use Rattle.words.specs.Reading.{left}
-use Rattle.heading.specs.Names.{Has, texts}
+use Rattle.heading.specs.Names.{texts}
 use Rattle.heading.proofs.Rows.{Taken, has_same, texts_push, vec_texts, taken_none, no_name, too_many, twice, taken_more, nothing, taken_all}
 use Rattle.heading.proofs.read.read_names.Goals as goal
 

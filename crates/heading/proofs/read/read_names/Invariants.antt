@@ -1,4 +1,4 @@
-use Rattle.std.proofs.Common.{◌≡◌, ℕ, ◌<◌, ◌≤◌, false, [], ◌++◌, length, get_or, vec_items}
+use Rattle.std.proofs.Common.{◌≡◌, false, length, vec_items}
 use Rattle.words.specs.Reading.{left, starts}
 use Rattle.heading.specs.Names.{texts}
 use Rattle.heading.proofs.Rows.{Taken}

@@ -1,4 +1,4 @@
-use Rattle.std.proofs.Common.{[], ◌∷◌, ◌++◌, vec_items, sym, refl, ap, ◌∙◌, subst, rules}
+use Rattle.std.proofs.Common.{[], ◌∷◌, ◌++◌, ap, ◌∙◌, subst, rules}
 use Rattle.words.specs.Words.{joined_by}
 use Rattle.heading.specs.Names.{Names, texts}
 use Rattle.heading.specs.Headings.{kind_word, names_of}

@@ -1,4 +1,3 @@
-use Rattle.std.proofs.Common.{w64, rules}
 use Rattle.std.proofs.lemmas.Int.{to_z-of_z}
 use Rattle.kinds.proofs.Steps.{put_none}
 use Rattle.kinds.proofs.total.write.Goals as goal

@@ -1,7 +1,5 @@
-use Rattle.std.proofs.Common.{◌≡◌, ℕ, ◌*◌, ◌<◌, ◌≤◌, Bool, true, false, List, [], map, length, get_or, ℤ, pos, ◌*ℤ◌, nat_abs, Ok, Err, Result, sym, refl, ap, ◌∙◌, subst, ap₂, arith, w64, to_z, of_z, rules}
-use Rattle.std.proofs.lemmas.List.{length-map}
+use Rattle.std.proofs.Common.{◌≡◌, ℕ, ◌*◌, ◌<◌, ◌≤◌, false, List, [], map, length, get_or, ℤ, pos, ◌*ℤ◌, nat_abs, Err, Result, sym, ap, ◌∙◌, subst, ap₂, arith, w64, rules}
 use Rattle.std.proofs.lemmas.Int.{to_z-of_z}
-use Rattle.records.specs.Outcomes.{guard}
 use Rattle.records.specs.declared.refusal.Refusal.{Refusal}
 use Rattle.records.specs.declared.refusal.Refusal.TheVariants.{TooFine}
 use Rattle.whole.specs.Tests.{any}
@@ -10,7 +8,7 @@ use Rattle.rules.specs.Sheets.{unfit_values}
 use Rattle.rules.proofs.Fit.{fit_values}
 use Rattle.pulls.specs.Steps.{placed}
 use Rattle.pulls.specs.Multiple.{multiple, strays, all_multiplied}
-use Rattle.pulls.specs.Finish.{numerators_by, finished}
+use Rattle.pulls.specs.Finish.{numerators_by}
 use Rattle.pulls.proofs.Refusing.{guard_ok, guard_err}
 use Rattle.pulls.proofs.Within.{within}
 use Rattle.pulls.proofs.Finishing.{accepted, positive, denominator, too_large, too_far, goes_on}

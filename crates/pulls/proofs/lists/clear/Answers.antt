@@ -1,8 +1,8 @@
-use Rattle.std.proofs.Common.{◌≡◌, ℕ, map, length, pos, ap, ◌∙◌, arith}
+use Rattle.std.proofs.Common.{map, length, pos, ◌∙◌, arith}
 use Rattle.std.proofs.lemmas.List.{length-map}
 use Rattle.whole.specs.Lists.{tab}
 use Rattle.whole.proofs.Lists.{tab-length}
-use Rattle.rules.specs.Values.{zeros, written}
+use Rattle.rules.specs.Values.{zeros}
 use Rattle.sheets.proofs.Writing.{cleared_more}
 use Rattle.pulls.proofs.Placed.{written_all}
 use Rattle.pulls.proofs.lists.clear.Goals as goal

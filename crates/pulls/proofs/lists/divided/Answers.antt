@@ -1,7 +1,7 @@
-use Rattle.std.proofs.Common.{◌≡◌, ℕ, ◌<◌, ◌≤◌, length, get_or, set, ℤ, pos, nat_abs, ◌≤ℤ◌, sym, ap, ◌∙◌, subst, arith, w64, SFits, to_z, of_z, rules}
+use Rattle.std.proofs.Common.{◌≡◌, ℕ, ◌<◌, ℤ, pos, ◌≤ℤ◌, sym, ap, ◌∙◌, subst, arith, w64, SFits, to_z, of_z, rules}
 use lib.Signed.{quot_z}
 use Rattle.std.proofs.lemmas.Int.{to_z-of_z}
-use Rattle.whole.specs.Lists.{tab, at}
+use Rattle.whole.specs.Lists.{at}
 use Rattle.whole.proofs.Lists.{tab-length, at-tab}
 use Rattle.pulls.specs.Steps.{quotients}
 use Rattle.pulls.proofs.Quotients.{quotient_fits}

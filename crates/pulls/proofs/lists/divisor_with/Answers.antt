@@ -1,4 +1,4 @@
-use Rattle.std.proofs.Common.{◌≡◌, ◌<◌, ◌≤◌, length, get_or, pos, nat_abs, sym, ap, ◌∙◌, ap₂, arith, w64, SFits, rules}
+use Rattle.std.proofs.Common.{◌<◌, ◌≤◌, length, pos, nat_abs, sym, ap, ◌∙◌, ap₂, arith, w64, SFits, rules}
 use Rattle.std.proofs.lemmas.Int.{to_z-of_z}
 use Rattle.std.proofs.lemmas.List.Sums.{fold_more}
 use Rattle.std.proofs.lemmas.List.{take_all}

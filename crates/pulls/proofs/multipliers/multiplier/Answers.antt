@@ -1,4 +1,4 @@
-use Rattle.std.proofs.Common.{◌≡◌, ◌/◌, ◌<◌, ◌≤◌, ℤ, pos, sym, ap, ◌∙◌, div-le_self, arith, w64, to_z}
+use Rattle.std.proofs.Common.{◌/◌, sym, div-le_self, arith, w64}
 use Rattle.std.proofs.lemmas.Int.{to_z_pos}
 use Rattle.pulls.proofs.Multiplying.{spare-stays, sum-strays, product-strays, product-stays}
 use Rattle.pulls.proofs.multipliers.multiplier.Goals as goal

@@ -1,16 +1,13 @@
-use Rattle.std.proofs.Common.{◌≡◌, ℕ, ◌<◌, ◌≤◌, Bool, true, false, List, [], map, length, get_or, ℤ, Ok, Err, Result, sym, refl, ap, ◌∙◌, subst, arith, rules, below_more}
+use Rattle.std.proofs.Common.{◌≡◌, Bool, List, [], map, length, get_or, ℤ, Ok, Err, sym, ap, ◌∙◌, arith, rules, below_more}
 use Rattle.std.proofs.lemmas.List.{length-map, get_or-map}
-use Rattle.records.specs.declared.refusal.Refusal.{Refusal}
 use Rattle.records.specs.declared.refusal.Refusal.TheVariants.{TooFine}
 use Rattle.records.specs.Outcomes.{guard, image}
-use Rattle.whole.specs.Tests.{any}
 use Rattle.whole.proofs.Lists.{tab-length, get_or-tab}
 use Rattle.whole.proofs.Tests.{some-any, none_any}
 use Rattle.sheets.proofs.Writing.{written_more}
 use Rattle.pulls.specs.Multiple.{strays, multiplied, all_multiplied}
 use Rattle.pulls.proofs.Placed.{written_all, written_past}
 use Rattle.pulls.proofs.Refusing.{guard_ok, guard_err, not_made}
-use Rattle.pulls.proofs.multipliers.multiply.Given as given
 use Rattle.pulls.proofs.multipliers.multiply.Goals as goal
 
 pub returns-in_err-sums : goal.returns-in_err-sums

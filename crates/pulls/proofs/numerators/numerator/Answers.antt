@@ -1,4 +1,4 @@
-use Rattle.std.proofs.Common.{◌≡◌, ℕ, ◌<◌, ◌≤◌, false, List, ℤ, ◌+ℤ◌, ◌*ℤ◌, nat_abs, sym, ap, ◌∙◌, subst, w64, to_z, of_z}
+use Rattle.std.proofs.Common.{ℕ, ◌≤◌, ℤ, nat_abs, sym, ap, ◌∙◌, subst, w64}
 use Rattle.std.proofs.lemmas.Int.{to_z-of_z}
 use Rattle.records.specs.declared.role.Role.{Role}
 use Rattle.whole.specs.Lists.{tab, at}

@@ -1,10 +1,10 @@
-use Rattle.std.proofs.Common.{◌≡◌, ℕ, ◌<◌, ◌≤◌, List, [], map, length, get_or, ℤ, pos, ◌*ℤ◌, sym, ap, ◌∙◌, arith, w64, SFits, rules}
+use Rattle.std.proofs.Common.{◌≡◌, ℕ, ◌<◌, [], map, length, get_or, ℤ, pos, ◌*ℤ◌, sym, ap, ◌∙◌, arith, w64, SFits, rules}
 use Rattle.std.proofs.lemmas.List.{get_or-map}
 use Rattle.std.proofs.lemmas.Int.{to_z-of_z}
 use Rattle.whole.specs.Lists.{at, coord}
 use Rattle.whole.specs.Sums.{sum}
 use Rattle.rules.specs.Sheets.{relation_at}
-use Rattle.pulls.specs.Steps.{plus, shift_at}
+use Rattle.pulls.specs.Steps.{plus}
 use Rattle.pulls.proofs.Placed.{tabbed}
 use Rattle.pulls.proofs.Residual.{zero_at}
 use Rattle.pulls.proofs.Carrying.{no_sum, more}

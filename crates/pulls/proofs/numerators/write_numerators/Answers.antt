@@ -1,12 +1,10 @@
-use Rattle.std.proofs.Common.{◌≡◌, ℕ, ◌<◌, ◌≤◌, false, List, [], map, length, get_or, ℤ, pos, ◌*ℤ◌, nat_abs, sym, refl, ap, ◌∙◌, subst, ap₂, arith, w64, SFits, to_z, of_z, rules}
+use Rattle.std.proofs.Common.{◌≡◌, ℕ, ◌<◌, ◌≤◌, List, [], map, length, get_or, ℤ, pos, ◌*ℤ◌, nat_abs, sym, ap, ◌∙◌, subst, ap₂, arith, w64, SFits, to_z, of_z, rules}
 use Rattle.std.proofs.lemmas.List.{length-map, get_or-map}
 use Rattle.std.proofs.lemmas.Int.{to_z-of_z, to_z_pos}
 use Rattle.whole.specs.Lists.{tab, at, coord}
 use Rattle.whole.proofs.Lists.{tab-length, tab_ext, get_or-tab, at-tab}
 use Rattle.whole.proofs.Sizes.{fits}
-use Rattle.rules.specs.Values.{grid}
-use Rattle.rules.specs.Gripping.{role, is_held}
-use Rattle.rules.specs.Pulling.{numerator}
+use Rattle.rules.specs.Gripping.{role}
 use Rattle.rules.proofs.Bounds.{denominator_within}
 use Rattle.rules.proofs.Fit.{fit_values}
 use Rattle.sheets.proofs.Writing.{written_more}

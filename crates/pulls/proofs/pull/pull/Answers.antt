@@ -1,4 +1,4 @@
-use Rattle.std.proofs.Common.{◌≡◌, ℕ, List, map, length, ℤ, Ok, Err, Result, sym, refl, ap, ◌∙◌, subst, ap₂, arith, w64, SFits, rules}
+use Rattle.std.proofs.Common.{◌≡◌, ℕ, map, length, ℤ, Ok, Err, Result, sym, ap, ◌∙◌, arith, w64, SFits, rules}
 use Rattle.std.proofs.lemmas.Int.{to_z-of_z}
 use Rattle.records.specs.declared.refusal.Refusal.{Refusal}
 use Rattle.rules.specs.Values.{zeros}

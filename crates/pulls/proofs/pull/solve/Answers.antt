@@ -1,4 +1,4 @@
-use Rattle.std.proofs.Common.{◌≡◌, ℕ, ◌<◌, ◌≤◌, Bool, true, false, List, [], map, length, get_or, ℤ, pos, nat_abs, Ok, Err, Result, sym, refl, ap, ◌∙◌, subst, ap₂, arith, w64, to_z, of_z, rules}
+use Rattle.std.proofs.Common.{◌≡◌, ℕ, false, List, map, length, get_or, ℤ, Ok, Err, Result, sym, ap, ◌∙◌, subst, ap₂, arith, w64, rules}
 use Rattle.std.proofs.lemmas.Int.{to_z-of_z}
 use Rattle.records.specs.Outcomes.{guard}
 use Rattle.records.specs.declared.refusal.Refusal.{Refusal}
@@ -6,7 +6,7 @@ use Rattle.records.specs.declared.refusal.Refusal.TheVariants.{GapTooLarge, Impo
 use Rattle.whole.specs.Lists.{at, coord}
 use Rattle.whole.proofs.Tests.{any_false, above_false}
 use Rattle.rules.specs.Sheets.{unfit_values, relation_at}
-use Rattle.rules.specs.Pulling.{some_above, residuals, carried, divisors, lowered, lowered_sums, contradicts, proposed}
+use Rattle.rules.specs.Pulling.{some_above, residuals, carried, divisors, lowered, lowered_sums, contradicts}
 use Rattle.workings.specs.Shown.{shown}
 use Rattle.pulls.specs.Rows.{chosen}
 use Rattle.pulls.specs.Steps.{placed}

@@ -1,10 +1,9 @@
-use Rattle.std.proofs.Common.{◌≡◌, ℕ, ◌<◌, Bool, false, not, ◌&&◌, List, [], map, length, get_or, ℤ, sym, ap, ◌∙◌, arith, below_more}
+use Rattle.std.proofs.Common.{ℕ, ◌<◌, Bool, not, ◌&&◌, List, [], map, length, ℤ, sym, ap, ◌∙◌, arith, below_more}
 use Rattle.std.proofs.lemmas.List.{get_or-map}
 use Rattle.whole.specs.Lists.{at, coord}
 use Rattle.whole.specs.Tests.{any, above}
 use Rattle.whole.proofs.Tests.{some-any, none_any}
 use Rattle.rules.specs.Gripping.{role, is_held}
-use Rattle.pulls.proofs.residuals.far_wish.Given as given
 use Rattle.pulls.proofs.residuals.far_wish.Goals as goal
 
 pub returns-then-far : goal.returns-then-far

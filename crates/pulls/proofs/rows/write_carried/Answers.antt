@@ -1,21 +1,19 @@
-use Rattle.std.proofs.Common.{◌≡◌, ℕ, ◌/◌, ◌<◌, ◌≤◌, Bool, true, false, not, ◌&&◌, List, [], map, length, get_or, ℤ, pos, nat_abs, Ok, Err, sym, refl, ap, ◌∙◌, subst, ap₂, arith, rules, below_more}
+use Rattle.std.proofs.Common.{◌≡◌, ℕ, ◌/◌, ◌<◌, ◌≤◌, Bool, false, not, ◌&&◌, map, length, get_or, nat_abs, Ok, Err, sym, ap, ◌∙◌, subst, arith, rules, below_more}
 use Rattle.std.proofs.lemmas.List.{length-map}
 use Rattle.records.specs.declared.refusal.Refusal.TheVariants.{Impossible}
 use Rattle.records.specs.Outcomes.{guard, image}
-use Rattle.whole.specs.Lists.{tab, coord}
+use Rattle.whole.specs.Lists.{coord}
 use Rattle.whole.specs.Tests.{any, nonzero}
 use Rattle.whole.proofs.Lists.{tab-length}
 use Rattle.whole.proofs.Tests.{some-any, none_any}
 use Rattle.linear.specs.Elimination.{entry}
 use Rattle.rules.specs.Gripping.{is_needed}
-use Rattle.rules.specs.Pulling.{carried, divisors, lowered, lowered_sums, contradicts, some_above}
+use Rattle.rules.specs.Pulling.{carried, divisors, lowered, lowered_sums, some_above}
 use Rattle.sheets.proofs.Writing.{written_more}
 use Rattle.workings.specs.Shown.{shown}
-use Rattle.pulls.specs.Steps.{lower}
 use Rattle.pulls.proofs.Placed.{written_all, written_set}
 use Rattle.pulls.proofs.Refusing.{not_made}
 use Rattle.pulls.proofs.Lowering.{right_long, carried_found, row_ok, row_err}
-use Rattle.pulls.proofs.rows.write_carried.Given as given
 use Rattle.pulls.proofs.rows.write_carried.Goals as goal
 
 pub carried-g-requires : goal.carried-g-requires

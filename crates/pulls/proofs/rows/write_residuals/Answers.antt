@@ -1,9 +1,9 @@
-use Rattle.std.proofs.Common.{◌≡◌, ℕ, ◌<◌, ◌≤◌, Bool, true, false, List, [], map, length, get_or, ℤ, pos, ◌*ℤ◌, nat_abs, Ok, sym, refl, ap, ◌∙◌, subst, arith, w64, to_z, of_z, rules, below_more}
+use Rattle.std.proofs.Common.{◌≡◌, ◌<◌, Bool, false, List, [], map, length, get_or, ℤ, Ok, sym, refl, ap, ◌∙◌, subst, arith, w64, to_z, of_z, below_more}
 use Rattle.std.proofs.lemmas.List.{length-map, get_or-map}
 use Rattle.std.proofs.lemmas.Int.{to_z-of_z}
 use Rattle.records.specs.declared.refusal.Refusal.TheVariants.{GapTooLarge}
 use Rattle.records.specs.Outcomes.{guard}
-use Rattle.whole.specs.Lists.{tab, at, coord}
+use Rattle.whole.specs.Lists.{at, coord}
 use Rattle.whole.specs.Tests.{any, above}
 use Rattle.whole.proofs.Tests.{some-any, none_any}
 use Rattle.rules.specs.Sheets.{unfit_values, bad_constant}
@@ -12,7 +12,6 @@ use Rattle.sheets.proofs.Writing.{written_more}
 use Rattle.pulls.specs.Rows.{chosen}
 use Rattle.pulls.proofs.Placed.{written_all}
 use Rattle.pulls.proofs.Chosen.{residual_rows, residual_found}
-use Rattle.pulls.proofs.rows.write_residuals.Given as given
 use Rattle.pulls.proofs.rows.write_residuals.Goals as goal
 
 pub bounds-constants-j : goal.bounds-constants-j

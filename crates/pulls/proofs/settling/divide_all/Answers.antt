@@ -1,4 +1,4 @@
-use Rattle.std.proofs.Common.{◌≡◌, ℕ, ◌<◌, ◌≤◌, List, [], map, length, get_or, ℤ, pos, ◌≤ℤ◌, sym, ap, ◌∙◌, subst, arith, w64, to_z, of_z}
+use Rattle.std.proofs.Common.{ℕ, List, [], map, length, get_or, ℤ, pos, ◌≤ℤ◌, sym, ap, ◌∙◌, subst, arith, w64, to_z, of_z}
 use lib.Signed.{quot_z}
 use Rattle.std.proofs.lemmas.List.{length-map, get_or-map}
 use Rattle.std.proofs.lemmas.Int.{to_z-of_z}

@@ -1,4 +1,4 @@
-use Rattle.std.proofs.Common.{◌≡◌, ℕ, ◌<◌, ◌≤◌, List, [], map, length, get_or, take, ℤ, sym, ap, ◌∙◌, ap₂, arith}
+use Rattle.std.proofs.Common.{List, [], map, get_or, take, ℤ, sym, ap, ◌∙◌, ap₂, arith}
 use Rattle.std.proofs.lemmas.List.{length-map, get_or-map, take_all}
 use Rattle.rules.specs.Pulling.{joined}
 use Rattle.pulls.specs.Steps.{divisor_from}

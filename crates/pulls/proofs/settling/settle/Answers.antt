@@ -1,11 +1,11 @@
-use Rattle.std.proofs.Common.{◌≡◌, ℕ, ◌/◌, ◌<◌, ◌≤◌, Bool, true, false, List, map, length, ℤ, pos, ◌≤ℤ◌, Ok, sym, ap, ◌∙◌, subst, ap₂, div-le_self, arith, w64, to_z}
+use Rattle.std.proofs.Common.{◌≡◌, ℕ, ◌/◌, map, length, ℤ, pos, ◌≤ℤ◌, Ok, sym, ap, ◌∙◌, subst, ap₂, div-le_self, arith, w64, to_z}
 use borrow.Author.Differences.{ints}
 use lib.Signed.{quot_z}
 use Rattle.std.proofs.lemmas.List.{length-map}
 use Rattle.std.proofs.lemmas.Int.{to_z_pos}
 use Rattle.whole.specs.Lists.{coord}
 use Rattle.whole.proofs.Lists.{tab-length}
-use Rattle.rules.specs.Pulling.{joined, lowest, settled}
+use Rattle.rules.specs.Pulling.{joined}
 use Rattle.rules.specs.Sheets.{unfit_values}
 use Rattle.rules.specs.Values.{grid}
 use Rattle.pulls.proofs.Divisors.{divisor-≤}

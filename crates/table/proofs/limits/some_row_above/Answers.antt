@@ -1,4 +1,4 @@
-use Rattle.std.proofs.Common.{◌≡◌, ℕ, sym, arith}
+use Rattle.std.proofs.Common.{ℕ, sym, arith}
 use Rattle.whole.specs.Lists.{coord}
 use Rattle.whole.specs.Tests.{any, above}
 use Rattle.whole.proofs.Tests.{some-any}

@@ -1,4 +1,4 @@
-use Rattle.std.proofs.Common.{◌≤◌, ℤ, ◌*ℤ◌, nat_abs, arith, w64, SFits}
+use Rattle.std.proofs.Common.{◌≤◌, ◌*ℤ◌, nat_abs, arith, w64, SFits}
 use Rattle.std.proofs.lemmas.Int.{to_z-of_z}
 use Rattle.whole.proofs.Sizes.{product-≤, fits}
 use Rattle.table.proofs.start.weighted.Goals as goal

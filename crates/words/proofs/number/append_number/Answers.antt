@@ -1,4 +1,4 @@
-use Rattle.std.proofs.Common.{◌++◌, pos, nat_abs, ◌<ℤ◌, vec_items, decimal, sym, ap, ◌∙◌, subst, arith, w64}
+use Rattle.std.proofs.Common.{◌++◌, pos, nat_abs, ◌<ℤ◌, vec_items, decimal, ap, ◌∙◌, arith, w64}
 use Rattle.std.proofs.lemmas.Int.{ints, to_z-of_z}
 use Rattle.words.proofs.Appends.{done-map, done_ok, signed_above, minus_behind}
 use Rattle.words.proofs.number.append_number.Goals as goal

@@ -1,4 +1,4 @@
-use Rattle.std.proofs.Common.{◌≡◌, ◌<◌, ◌≤◌, map, length, take, set, sym, ap, ◌∙◌, arith, length-set}
+use Rattle.std.proofs.Common.{◌≡◌, ◌<◌, map, length, take, set, sym, ap, ◌∙◌, arith, length-set}
 use Rattle.rules.specs.Sheets.{relation_at}
 use Rattle.workings.proofs.Counting.{chosen-left, chosen_more, crowded, chosen_all, chosen-many}
 use Rattle.workings.proofs.choosing.choose.Goals as goal

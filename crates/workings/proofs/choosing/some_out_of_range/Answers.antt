@@ -1,4 +1,4 @@
-use Rattle.std.proofs.Common.{◌≡◌, ℕ, length, sym, arith}
+use Rattle.std.proofs.Common.{ℕ, length, sym, arith}
 use Rattle.whole.proofs.Tests.{some-any}
 use Rattle.rules.specs.Sheets.{bad_coefs, relation_at}
 use Rattle.table.proofs.Places.{any_more}

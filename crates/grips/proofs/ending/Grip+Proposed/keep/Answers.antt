@@ -1,4 +1,4 @@
-use Rattle.std.proofs.Common.{◌≡◌, ℕ, Bool, cond, List, map, ℤ, Ok, Err, Result, sym, ap, ◌∙◌, ap₂, arith, w64, to_z, of_z}
+use Rattle.std.proofs.Common.{ℕ, Bool, cond, List, map, ℤ, Ok, Err, Result, sym, ap, ◌∙◌, ap₂, arith, w64, to_z, of_z}
 use Rattle.std.proofs.lemmas.Int.{to_z-of_z}
 use Rattle.std.proofs.lemmas.Bool.{or_from}
 use Rattle.records.specs.declared.refusal.Refusal.{Refusal}

@@ -1,8 +1,8 @@
-use Rattle.std.proofs.Common.{◌≡◌, ◌≤◌, ◌↔◌, List, map, length, ℤ, Ok, Err, Result, sym, ap, ◌∙◌, subst, arith}
+use Rattle.std.proofs.Common.{◌≡◌, ◌≤◌, ◌↔◌, List, map, length, Result, sym, ap, ◌∙◌, subst, arith}
 use Rattle.records.specs.declared.refusal.Refusal.{Refusal}
 use Rattle.records.specs.Outcomes.{image}
 use Rattle.rules.specs.Sheets as rules
-use Rattle.rules.specs.Calls.{grip_answer, marks_after}
+use Rattle.rules.specs.Calls.{marks_after}
 use Rattle.sheets.specs.Shown.{numbers}
 use Rattle.sheets.proofs.Fit.{long}
 use Rattle.workings.specs.Shown.{shown}
@@ -10,7 +10,7 @@ use Rattle.records.specs.declared.relation.Mark.TheVariants.{Spare}
 use Rattle.records.specs.declared.relation.Relation.{Relation}
 use Rattle.law.proofs.Facts.{spare-exactly}
 use Rattle.grips.specs.Shown.{handing_back, Implied}
-use Rattle.grips.proofs.Answering.{Accepted, accepted}
+use Rattle.grips.proofs.Answering.{accepted}
 use Rattle.grips.proofs.Taken.{marks, few, told-spares}
 use Rattle.grips.proofs.taking.Grip+Unproposed.take.Goals as goal
 

@@ -1,7 +1,5 @@
-use Rattle.std.proofs.Common.{◌≡◌, List, [], map, ℤ, Ok, Err, Result, sym, ap, ◌∙◌, subst, w64, SFits, rules}
+use Rattle.std.proofs.Common.{map, ℤ, Ok, Err, sym, ap, ◌∙◌, subst, w64, SFits, rules}
 use Rattle.std.proofs.lemmas.Int.{to_z-of_z}
-use Rattle.records.specs.declared.refusal.Refusal.{Refusal}
-use Rattle.rules.specs.Sheets as rules
 use Rattle.rules.specs.Runs.{told}
 use Rattle.sheets.specs.Shown.{numbers}
 use Rattle.workings.specs.Shown.{shown}

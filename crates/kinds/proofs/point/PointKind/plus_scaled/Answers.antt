@@ -1,4 +1,4 @@
-use Rattle.std.proofs.Common.{◌≡◌, Ok, sym, ap, ◌∙◌, ap₂, w64, SFits, rules}
+use Rattle.std.proofs.Common.{◌≡◌, Ok, ap, ◌∙◌, ap₂, w64, SFits, rules}
 use Rattle.std.proofs.lemmas.Int.{to_z-of_z}
 use Rattle.std.proofs.lemmas.Result.{err_from_is_err_and}
 use Rattle.kinds.specs.Outcomes.{fused_at}

@@ -1,6 +1,5 @@
-use Rattle.std.proofs.Common.{◌≡◌, ◌<◌, List, map, length, set, ℤ, sym, ap, ◌∙◌, ap₂, arith, rules}
+use Rattle.std.proofs.Common.{◌<◌, map, length, sym, arith, rules}
 use Rattle.std.proofs.lemmas.List.{map-set}
-use Rattle.rules.specs.Calls.{bind_by}
 use Rattle.sheets.specs.Shown.{numbers}
 use Rattle.sheets.proofs.Accepted.{bindable}
 use Rattle.sheets.proofs.Fit.{long}

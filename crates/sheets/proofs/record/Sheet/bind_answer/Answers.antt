@@ -1,4 +1,4 @@
-use Rattle.std.proofs.Common.{◌≡◌, Bool, map, ℤ, sym, ap, ◌∙◌, arith, w64}
+use Rattle.std.proofs.Common.{map, ℤ, sym, ap, ◌∙◌, arith, w64}
 use Rattle.std.proofs.lemmas.Int.{to_z-of_z}
 use Rattle.std.proofs.lemmas.Bool.{or_parts}
 use Rattle.whole.proofs.Sizes.{fits}

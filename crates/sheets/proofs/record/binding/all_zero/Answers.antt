@@ -1,4 +1,4 @@
-use Rattle.std.proofs.Common.{◌≡◌, not, ◌≢◌, get_or, ℤ, pos, sym, ap, ◌∙◌, arith, w64, SFits, to_z, of_z, rules, below_more}
+use Rattle.std.proofs.Common.{◌≡◌, not, ◌≢◌, get_or, pos, sym, ap, ◌∙◌, arith, w64, SFits, to_z, of_z, rules, below_more}
 use Rattle.std.proofs.lemmas.Int.{to_z-of_z}
 use Rattle.whole.specs.Lists.{at}
 use Rattle.whole.specs.Tests.{nonzero}

@@ -1,4 +1,4 @@
-use Rattle.std.proofs.Common.{◌≡◌, ℕ, ◌*◌, ◌<◌, ◌≤◌, cond, List, [], map, length, get_or, ℤ, pos, ◌+ℤ◌, ◌-ℤ◌, ◌*ℤ◌, neg_ℤ, nat_abs, sym, refl, ap, ◌∙◌, subst, ap₂, arith, w64, SFits, to_z, of_z, rules}
+use Rattle.std.proofs.Common.{◌≡◌, ℕ, ◌<◌, ◌≤◌, cond, [], map, length, get_or, ℤ, pos, ◌+ℤ◌, ◌-ℤ◌, ◌*ℤ◌, neg_ℤ, nat_abs, sym, ap, ◌∙◌, ap₂, arith, w64, SFits, to_z, of_z, rules}
 use borrow.Author.Differences.{ints}
 use Rattle.std.proofs.lemmas.Int.{to_z-of_z}
 use Rattle.std.proofs.lemmas.List.{get_or-map, length-map}
@@ -7,9 +7,8 @@ use Rattle.whole.specs.Sums.{sum}
 use Rattle.whole.proofs.Tests.{any_false, above_false}
 use Rattle.kinds.specs.Coords.{plus_scaled}
 use Rattle.kinds.specs.Outcomes.{all_fit}
-use Rattle.sheets.proofs.Fit.{fit_values, FitValues}
+use Rattle.sheets.proofs.Fit.{fit_values}
 use Rattle.sheets.proofs.Gaps.{start-at, start-size, more_at, more_size, sum-none}
-use Rattle.sheets.proofs.record.binding.gap.Given as given
 use Rattle.sheets.proofs.record.binding.gap.Goals as goal
 
 -- the first factor, as code has it

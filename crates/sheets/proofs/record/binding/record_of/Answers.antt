@@ -1,4 +1,4 @@
-use Rattle.std.proofs.Common.{◌≡◌, ℕ, ◌+◌, ◌<◌, List, length, get_or, set, replicate, ℤ, pos, sym, ap, ◌∙◌, ap₂, zero-add, arith, w64, SFits, rules}
+use Rattle.std.proofs.Common.{ℕ, ◌+◌, ◌<◌, List, length, get_or, set, replicate, ℤ, pos, sym, ap, ◌∙◌, ap₂, zero-add, arith, w64, SFits, rules}
 use lib.Seq.{paste}
 use Rattle.std.proofs.lemmas.Int.{to_z-of_z}
 use Rattle.std.proofs.lemmas.List.Edits.{paste_more}

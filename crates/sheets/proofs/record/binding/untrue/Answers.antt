@@ -1,7 +1,6 @@
-use Rattle.std.proofs.Common.{◌≡◌, map, ℤ, ap, ◌∙◌, w64}
+use Rattle.std.proofs.Common.{map, ℤ, ap, ◌∙◌, w64}
 use Rattle.std.proofs.lemmas.Int.{to_z-of_z}
 use Rattle.whole.specs.Lists.{at}
-use Rattle.whole.specs.Tests.{above}
 use Rattle.whole.proofs.Tests.{any_ext}
 use Rattle.sheets.specs.Gap.{gap_at}
 use Rattle.sheets.proofs.Gaps.{gap_differs}

@@ -1,4 +1,4 @@
-use Rattle.std.proofs.Common.{◌≡◌, true, get_or, pos, sym, arith, w64, SFits, rules, below_more}
+use Rattle.std.proofs.Common.{get_or, pos, sym, arith, w64, SFits, rules, below_more}
 use Rattle.std.proofs.lemmas.Int.{to_z-of_z}
 use Rattle.whole.specs.Lists.{at}
 use Rattle.whole.specs.Tests.{above}

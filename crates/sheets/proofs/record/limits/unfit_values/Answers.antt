@@ -1,4 +1,4 @@
-use Rattle.std.proofs.Common.{◌≡◌, ℕ, ◌*◌, Bool, map, length, ℤ, nat_abs, sym, ap, ◌∙◌, w64}
+use Rattle.std.proofs.Common.{ℕ, ◌*◌, map, ℤ, nat_abs, sym, ap, ◌∙◌, w64}
 use Rattle.std.proofs.lemmas.List.{length-map}
 use Rattle.std.proofs.lemmas.Int.{to_z-of_z}
 use Rattle.std.proofs.lemmas.Bool.{lt-ltb, le-ltb}

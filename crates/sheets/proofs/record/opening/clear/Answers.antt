@@ -1,4 +1,4 @@
-use Rattle.std.proofs.Common.{◌≡◌, map, arith}
+use Rattle.std.proofs.Common.{arith}
 use Rattle.sheets.proofs.Writing.{cleared_more}
 use Rattle.sheets.proofs.record.opening.clear.Goals as goal
 

@@ -1,4 +1,4 @@
-use Rattle.std.proofs.Common.{◌≡◌, ◌-◌, ◌<◌, ◌≤◌, ◌++◌, map, length, take, drop, ℤ, pos, nat_abs, ◌<ℤ◌, sym, refl, ap, ◌∙◌, subst, arith, w64, SFits, to_z, of_z}
+use Rattle.std.proofs.Common.{◌≡◌, ◌-◌, ◌++◌, map, take, drop, ℤ, pos, ◌<ℤ◌, sym, ap, ◌∙◌, subst, arith, w64, to_z}
 use lib.Signed.{quot_z}
 use borrow.Author.Differences.{ints}
 use Rattle.std.proofs.lemmas.Int.{to_z-of_z, to_z_pos}

@@ -1,9 +1,8 @@
-use Rattle.std.proofs.Common.{◌≡◌, ℕ, ◌<◌, ◌≤◌, length, get_or, ℤ, pos, ◌-ℤ◌, ◌*ℤ◌, nat_abs, sym, ap, ◌∙◌, subst, arith, w64, SFits, rules}
+use Rattle.std.proofs.Common.{◌≡◌, ℕ, ◌<◌, ◌≤◌, length, get_or, ℤ, pos, ◌-ℤ◌, ◌*ℤ◌, nat_abs, sym, subst, arith, w64, SFits, rules}
 use Rattle.std.proofs.lemmas.Int.{to_z-of_z}
 use Rattle.whole.specs.Lists.{at}
 use Rattle.whole.proofs.Lists.{tab-length}
 use Rattle.linear.specs.Elimination.{table_limit}
-use Rattle.table.specs.Rows.{mixed}
 use Rattle.table.proofs.Places.{put_more, read_next, tab_more}
 use Rattle.table.proofs.row.Row.combine.Goals as goal
 

@@ -1,4 +1,4 @@
-use Rattle.std.proofs.Common.{◌≡◌, sym, ap, ◌∙◌}
+use Rattle.std.proofs.Common.{sym, ap, ◌∙◌}
 use Rattle.whole.specs.Lists.{at, coord}
 use Rattle.linear.specs.Elimination.{beyond}
 use Rattle.table.proofs.First.{first_small}

@@ -1,4 +1,4 @@
-use Rattle.std.proofs.Common.{◌≡◌, ℕ, ◌+◌, ◌<◌, length, sym, ap, ◌∙◌, subst, arith, length-set}
+use Rattle.std.proofs.Common.{◌≡◌, ◌∙◌, arith, length-set}
 use Rattle.whole.specs.Lists.{at, coord}
 use Rattle.linear.specs.Gram.{gram}
 use Rattle.table.proofs.First.{first_cell, first_more, first_all}

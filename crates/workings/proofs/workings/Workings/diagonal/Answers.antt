@@ -1,4 +1,4 @@
-use Rattle.std.proofs.Common.{◌≡◌, ◌+◌, ◌<◌, ◌≤◌, ℤ, pos, nat_abs, sym, ap, ◌∙◌, arith, rules}
+use Rattle.std.proofs.Common.{sym, ◌∙◌, arith}
 use Rattle.table.proofs.Grids.{entry-grid}
 use Rattle.workings.proofs.Numbers.{casts, reads, no_entry}
 use Rattle.workings.proofs.workings.Workings.diagonal.Goals as goal

@@ -1,4 +1,4 @@
-use Rattle.std.proofs.Common.{◌≡◌, ◌≤◌, length, Ok, Err, sym, ap, ◌∙◌, arith, rules}
+use Rattle.std.proofs.Common.{◌≤◌, length, Err, sym, arith}
 use Rattle.std.proofs.lemmas.Result.{err_from_is_err_and, IfOk-from_err}
 use Rattle.workings.specs.Rows.{coefficient_rows}
 use Rattle.workings.proofs.Made.{chosen_of, few_rows, gripped, within, upright, low, high, shown_is, facts}
