@@ -1,5 +1,5 @@
 -- What a grip's table, marks and workings mean, and what a pull with them gives.
-use Rattle.std.specs.Prelude.{◌≡◌, ℕ, ◌<◌, ◌≤◌, true, false, ◌≢◌, ◌↔◌, List, [], length, get_or, take, ℤ, pos, ◌*ℤ◌, ◌≤ℤ◌, Ok, slice_index_or}
+use Rattle.std.specs.Prelude.{◌≡◌, ℕ, ◌<◌, ◌≤◌, true, false, ◌≢◌, ◌↔◌, List, [], length, take, ℤ, pos, ◌*ℤ◌, ◌≤ℤ◌, Ok, slice_index_or}
 use Rattle.whole.specs.Lists.{at}
 use Rattle.whole.specs.Sums.{sum}
 use Rattle.linear.specs.Elimination.{Grid, entry, start, steps, beyond}
@@ -61,7 +61,7 @@ abbrev pub SpareExactly : Type 0
 SpareExactly = (size : ℕ) (s : Sheet) (vs : List Coords) (rs : List Relation) (qs : List Coords) (roles : List Role) (list : List ℕ) (w : Workings)
     → grip_answer size s vs rs qs roles list ≡ Ok w → (i : ℕ) → i < s.bound
     → let ρ = take s.count roles in
-    let b = get_or (bonds s rs qs) i no_bond in
+    let b = slice_index_or (bonds s rs qs) i no_bond in
     ((relation_at (marks_after (Ok w) s rs qs) i).mark ≡ Spare)
     ↔ ((counts s.count ρ b.coefs ≡ true) × Combination s.count ρ (counted s.count ρ (take i (bonds s rs qs))) b)
 

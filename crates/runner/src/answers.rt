@@ -1,5 +1,5 @@
 // What a card prints for the answers to its lines.
-use desks::Answer;
+use calls::Answer;
 use kinds::{Kind, read};
 use records::Refusal;
 use words::{Fault, append_number};

@@ -2,7 +2,7 @@
 #![tactic(auto)]
 
 mod answers;
-mod calls;
+mod asking;
 mod runs;
 
 pub use runs::run_card;

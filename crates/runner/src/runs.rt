@@ -1,12 +1,13 @@
 // Running a card.
 use crate::answers::{put_answer, put_bytes, put_refusal};
-use crate::calls::call_of;
-use desks::{Call, run};
+use crate::asking::call_of;
+use calls::Call;
 use forms::Written;
 use heading::{KindWord, read_heading};
 use kinds::{Kind, Length, Point};
 use lines::read_line;
 use records::Refusal;
+use series::run;
 use std::alloc::Global;
 use words::{Fault, Lines};
 
@@ -52,9 +53,10 @@ fn run_lines<V: Written + Kind + Drop>(
     let mut calls = Vec::new(heap);
     let mut good = Vec::new(heap);
     read_lines::<V>(heap, count, lines, &mut calls, &mut good)?;
-    let Ok(answers) = run(heap, count, calls.as_slice()) else {
+    let Ok(ran) = run(heap, count, calls.as_slice()) else {
         return Err(Fault::Memory);
     };
+    let answers = ran.answers;
     let mut next = 0;
     for fine in good.as_slice() {
         if *fine && next < answers.len() {

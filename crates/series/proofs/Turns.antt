@@ -1,0 +1,118 @@
+-- What holds after each turn of a series.
+use Rattle.std.proofs.Common.{◌≡◌, ℕ, ◌+◌, ◌<◌, ◌≤◌, min, Bool, true, false, cond, ◌||◌, ltb, List, [], ◌∷◌, ◌++◌, map, length, get_or, take, ℤ, pos, Ok, Err, vec_items, vec_len, vec_capacity, Result, Vec, sym, refl, ap, ◌∙◌, subst, arith}
+use Rattle.std.specs.declared.alloc.Global.{Global}
+use Rattle.std.proofs.lemmas.List.{map-append, take_more, take_all}
+use Rattle.std.proofs.lemmas.Bool.{or_parts, ltb-false}
+use Rattle.whole.specs.Lists.{tab}
+use Rattle.whole.proofs.Lists.{tab-length}
+use Rattle.linear.proofs.Outcomes.{not_accepted}
+use Rattle.records.specs.declared.refusal.Refusal.{Refusal}
+use Rattle.records.specs.declared.refusal.Refusal.TheVariants.{Unfit, Count}
+use Rattle.rules.specs.Limits.{most_parameters, most_relations, most_counted, working_places}
+use Rattle.rules.specs.Sheets.{Sheet}
+use Rattle.rules.specs.Values.{Coords, zeros, written}
+use Rattle.rules.specs.Pulling.{Placing}
+use Rattle.rules.specs.Calls.{opening}
+use Rattle.rules.specs.Runs as runs
+use Rattle.law.specs.Plenty.{LongLists}
+use Rattle.law.specs.Run.{Run}
+use Rattle.law.proofs.Ran.{Running, running_none, running_more, ran, values_in}
+use Rattle.calls.specs.declared.answer.Answer.{Answer}
+use Rattle.calls.specs.declared.call.Call.{Call}
+use Rattle.calls.specs.Shown.{call_of, reply_of}
+use Rattle.steps.specs.Lists.{by_parameter, by_relation, by_working, no_relations}
+use Rattle.desk.specs.declared.desk.Desk.{Desk}
+use Rattle.desk.specs.Desks.{fresh, use_of}
+
+-- ---- a desk's lists are long enough
+few : (size n : ℕ) (values : List Coords) (s : Sheet) → (opening size n values).0 ≡ Ok s → n ≤ most_parameters
+few size n values s = by (ltb (length values) (min n most_parameters)) (ltb n 1 || ltb most_parameters n) refl
+  where
+    new : Sheet
+    new = record { count = n; bound = 0; d = pos 1 }
+
+    outcome : Bool → Bool → Result Sheet Refusal × List Coords
+    outcome a b = cond a (Err Unfit, values) (cond b (Err Count, values) (Ok new, written n (zeros n size) values))
+
+    by : (a b : Bool) → (ltb n 1 || ltb most_parameters n) ≡ b → (outcome a b).0 ≡ Ok s → n ≤ most_parameters
+    by true b e h = absurd (not_accepted Unfit s h)
+    by false true e h = absurd (not_accepted Count s h)
+    by false false e h = ltb-false _ _ (or_parts (ltb n 1) _ e).1
+
+zeros_long : (n size : ℕ) → length (zeros n size) ≡ n
+zeros_long n size = tab-length n (λ s. tab size (λ c. pos 0))
+
+relations_long : most_relations ≤ length no_relations
+unfolding no_relations
+relations_long = omega arith
+
+constants_long : (size : ℕ) → most_relations ≤ length (by_relation size)
+unfolding by_relation
+constants_long size = let l = zeros_long most_relations size in omega arith
+
+proposal_long : (size : ℕ) → most_parameters ≤ length (by_parameter size)
+unfolding by_parameter
+proposal_long size = let l = zeros_long most_parameters size in omega arith
+
+working_long : (size : ℕ) → working_places ≤ length (by_working size)
+unfolding by_working
+working_long size = let l = zeros_long working_places size in omega arith
+
+long : (size n : ℕ) (s : Sheet) → (opening size n (by_parameter size)).0 ≡ Ok s → LongLists n (fresh size n s)
+long size n s e = record {
+  relations = relations_long;
+  constants = constants_long size;
+  proposal = let f = few size n (by_parameter size) s e in let p = proposal_long size in omega arith;
+  working = working_long size;
+  spare_list = omega arith;
+}
+
+-- ---- turns
+-- the first i calls were made, and there is room for the answers to all
+pub record Turn {K : Type 0} (size : ℕ) (f : K → Coords) (n : ℕ) (calls : List (Call K)) (i : ℕ) (answers : Vec (Answer K) Global) (desk : Desk K) : Type 0 where
+  pub sheet : Sheet
+  pub opened : (opening size n (by_parameter size)).0 ≡ Ok sheet
+  pub running : Running size (fresh size n sheet) (map (call_of f) (take i calls)) (map (reply_of f) (vec_items answers)) (use_of f desk)
+  pub many : vec_len answers ≡ i
+  pub room : length calls ≤ vec_capacity answers
+
+module _ {K : Type 0} (size : ℕ) (f : K → Coords) (n : ℕ) (calls : List (Call K)) where
+  pub first_turn : (answers : Vec (Answer K) Global) (desk : Desk K) (sheet : Sheet) → (opening size n (by_parameter size)).0 ≡ Ok sheet → use_of f desk ≡ fresh size n sheet
+      → vec_items answers ≡ [] → vec_len answers ≡ 0 → length calls ≤ vec_capacity answers → Turn size f n calls 0 answers desk
+  first_turn answers desk sheet e is none many room = record {
+    sheet = sheet;
+    opened = e;
+    running = subst (λ (u : runs.Use). Running size (fresh size n sheet) [] (map (reply_of f) (vec_items answers)) u) (sym is)
+        (subst (λ (xs : List (Answer K)). Running size (fresh size n sheet) [] (map (reply_of f) xs) (fresh size n sheet)) (sym none) (running_none size (fresh size n sheet)));
+    many = many;
+    room = room;
+  }
+
+  pub next_turn : (i : ℕ) (answers after : Vec (Answer K) Global) (desk next : Desk K) (call : Call K) (answer : Answer K) → i < length calls → call ≡ get_or calls i call
+      → use_of f next ≡ (runs.step size (use_of f desk) (call_of f call)).then → runs.Answers (runs.step size (use_of f desk) (call_of f call)).reply (reply_of f answer)
+      → vec_items after ≡ vec_items answers ++ (answer ∷ []) → vec_len after ≡ vec_len answers + 1 → vec_capacity after ≡ vec_capacity answers → Turn size f n calls i answers desk → Turn size f n calls (i + 1) after next
+  next_turn i answers after desk next call answer l at is reply items many cap T = record {
+    sheet = T.sheet;
+    opened = T.opened;
+    running =
+        let R = running_more size (fresh size n T.sheet) (map (call_of f) (take i calls)) (map (reply_of f) (vec_items answers)) (use_of f desk) (use_of f next) (call_of f call) (reply_of f answer) T.running is reply in
+        let made : map (call_of f) (take i calls) ++ (call_of f call ∷ []) ≡ map (call_of f) (take (i + 1) calls) =
+        sym (map-append (call_of f) (take i calls) (call ∷ [])) ∙ ap (map (call_of f)) (ap (λ (k : Call K). take i calls ++ (k ∷ [])) at ∙ sym (take_more calls i call l)) in
+        let told : map (reply_of f) (vec_items answers) ++ (reply_of f answer ∷ []) ≡ map (reply_of f) (vec_items after) =
+        sym (map-append (reply_of f) (vec_items answers) (answer ∷ [])) ∙ ap (map (reply_of f)) (sym items) in
+        subst (λ (rs : List runs.Reply). Running size (fresh size n T.sheet) (map (call_of f) (take (i + 1) calls)) rs (use_of f next)) told
+        (subst (λ (ks : List runs.Call). Running size (fresh size n T.sheet) ks (map (reply_of f) (vec_items answers) ++ (reply_of f answer ∷ [])) (use_of f next)) made R);
+    many = let m = T.many in omega arith;
+    room = let r = T.room in omega arith;
+  }
+
+  -- all were made
+  pub last_turn : (i : ℕ) (answers : Vec (Answer K) Global) (desk : Desk K) (d : ℤ) (values : List Coords) → length calls ≤ i → Turn size f n calls i answers desk
+      → values ≡ take (use_of f desk).sheet.count (use_of f desk).values → d ≡ (use_of f desk).sheet.d
+      → (sheet : Sheet) × ((opening size n (by_parameter size)).0 ≡ Ok sheet) × Run size n (fresh size n sheet) (map (call_of f) calls) (map (reply_of f) (vec_items answers)) (record { over = d; nums = values })
+  last_turn i answers desk d values l T values_are d-is =
+      let R = subst (λ (ks : List (Call K)). Running size (fresh size n T.sheet) (map (call_of f) ks) (map (reply_of f) (vec_items answers)) (use_of f desk)) (take_all i calls l) T.running in
+      let e = ran size n (by_parameter size) T.sheet T.opened no_relations (by_relation size) (by_parameter size) (by_working size) most_counted (long size n T.sheet T.opened)
+      (map (call_of f) calls) (map (reply_of f) (vec_items answers)) (use_of f desk) R in
+      let end : values_in n (use_of f desk) ≡ record { over = d; nums = values } = λ j. record { over = sym d-is j; nums = (ap (λ (k : ℕ). take k (use_of f desk).values) (sym e.0) ∙ sym values_are) j } in
+      (T.sheet, T.opened, subst (λ (p : Placing). Run size n (fresh size n T.sheet) (map (call_of f) calls) (map (reply_of f) (vec_items answers)) p) end e.1)
