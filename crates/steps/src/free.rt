@@ -68,9 +68,12 @@ fn gripped<K: Kind>(
 ) -> Result<(State, Answer<K>), AllocError>
     ensures { IfOk result (Means K.coords (gripped_sheet grip) (runs.gripped (shown workings)) (Ok (runs.spares spares.now))) }
 {
-    let Ok(workings) = Box::new(heap, workings) else {
-        let _ = grip.release();
-        return Err(AllocError);
+    let workings = match Box::new(heap, workings) {
+        Ok(workings) => workings,
+        Err(failed) => {
+            let _ = grip.release();
+            return Err(failed.into());
+        }
     };
     match Vec::from_slice(heap, spares) {
         Ok(numbers) => Ok((State::Gripped(grip, workings), Answer::Spares(numbers))),
