@@ -1,5 +1,5 @@
 // u + k × v on points.
-use kinds::{Kind, Point};
+use kinds::{Kind, Point, combine};
 
 // A point as it crosses to other languages.
 #[repr(C)]
@@ -21,11 +21,10 @@ pub extern "C" fn valetwren_plus_scaled(
     vs: &[Pair],
     out: &mut [Pair],
 ) -> bool {
-    let n = us.len().min(ks.len()).min(vs.len()).min(out.len());
     let mut fit = true;
-    for i in 0..n {
-        match point(us[i]).plus_scaled(ks[i], point(vs[i])) {
-            Ok(w) => out[i] = Pair { x: w.x, y: w.y },
+    for (((u, k), v), w) in us.iter().zip(ks).zip(vs).zip(out.iter_mut()) {
+        match point(*u).plus_scaled(*k, point(*v)) {
+            Ok(sum) => *w = Pair { x: sum.x, y: sum.y },
             Err(_) => fit = false,
         }
     }
@@ -35,13 +34,9 @@ pub extern "C" fn valetwren_plus_scaled(
 // The running sum of k × v from zero, which stays as it was where a step does not fit.
 #[unsafe(no_mangle)]
 pub extern "C" fn valetwren_sum_scaled(ks: &[i64], vs: &[Pair]) -> Pair {
-    let n = ks.len().min(vs.len());
     let mut sum = Point { x: 0, y: 0 };
-    for i in 0..n {
-        match sum.plus_scaled(ks[i], point(vs[i])) {
-            Ok(next) => sum = next,
-            Err(_) => {}
-        }
+    for (k, v) in ks.iter().zip(vs) {
+        sum = combine(sum, *k, point(*v));
     }
     Pair { x: sum.x, y: sum.y }
 }

@@ -1,4 +1,5 @@
 // The elimination of a grip's relations.
+use records::Refusal;
 use table::Table;
 
 // What a table is made of: each v(s), and the coefficients of at most 12 relations.
@@ -14,13 +15,21 @@ pub struct Cells {
     pub rows: [[i64; 24]; 12],
 }
 
-// The finished table of m relations with n parameters, and 0; or the number of the refusal.
+// The finished table of the first m relations with the first n parameters, which is refused where so many are not given.
+fn finished(n: usize, m: usize, given: &Given) -> Result<Table, Refusal> {
+    match (given.shares.get(..n), given.rows.get(..m)) {
+        (Some(shares), Some(rows)) => Table::finished(shares, rows),
+        _ => Err(Refusal::Unfit),
+    }
+}
+
+// The finished table of m relations with n parameters, and 0; or the number of the refusal, since C has no `Result`.
 #[unsafe(no_mangle)]
 pub extern "C" fn valetwren_eliminate(n: usize, m: usize, given: &Given, out: &mut Cells) -> u8 {
-    match Table::finished(n, m, &given.shares, &given.rows) {
+    match finished(n, m, given) {
         Ok(table) => {
-            for i in 0..12 {
-                out.rows[i] = table.rows[i].cells;
+            for (to, row) in out.rows.iter_mut().zip(&table.rows) {
+                *to = row.cells;
             }
             0
         }
@@ -31,7 +40,7 @@ pub extern "C" fn valetwren_eliminate(n: usize, m: usize, given: &Given, out: &m
 // The last number of the finished table, or 0 less the number of the refusal: the elimination without a copy of its table.
 #[unsafe(no_mangle)]
 pub extern "C" fn valetwren_last_number(n: usize, m: usize, given: &Given) -> i64 {
-    match Table::finished(n, m, &given.shares, &given.rows) {
+    match finished(n, m, given) {
         Ok(table) => {
             if m == 0 || m > 12 {
                 return 0;

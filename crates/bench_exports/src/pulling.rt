@@ -17,7 +17,7 @@ const BLANK: Relation = Relation {
     mark: Mark::Idle,
 };
 
-// Held below 0, pulled at 0, loose with the weight otherwise.
+// Held below 0, pulled at 0, loose with the weight otherwise: C hands a role over as a number.
 fn role_of(code: i64) -> Role {
     if code < 0 {
         Role::Held
@@ -30,38 +30,26 @@ fn role_of(code: i64) -> Role {
 
 fn roles_of(codes: &[i64]) -> [Role; PARAMETERS] {
     let mut roles = [Role::Held; PARAMETERS];
-    for s in 0..codes.len().min(PARAMETERS) {
-        roles[s] = role_of(codes[s]);
+    for (role, code) in roles.iter_mut().zip(codes) {
+        *role = role_of(*code);
     }
     roles
 }
 
 // The values of one list, whose coordinates stand in a row.
 fn load<K: Kind>(from: &[i64], values: &mut [K]) {
-    let size = K::count();
-    let mut s = 0;
-    for chunk in from.chunks_exact(size.max(1)) {
-        if s < values.len() {
-            let mut v = K::zero();
-            for k in 0..chunk.len() {
-                v = write(v, k, chunk[k]);
-            }
-            values[s] = v;
-            s += 1;
+    for (v, coordinates) in values.iter_mut().zip(from.chunks_exact(K::count().max(1))) {
+        for (k, x) in coordinates.iter().enumerate() {
+            *v = write(*v, k, *x);
         }
     }
 }
 
 // The coordinates of a list's values, in a row.
 fn store<K: Kind>(values: &[K], to: &mut [i64]) {
-    let size = K::count();
-    let mut at = 0;
-    for v in values {
-        for k in 0..size {
-            if at < to.len() {
-                to[at] = read(*v, k);
-                at += 1;
-            }
+    for (v, coordinates) in values.iter().zip(to.chunks_exact_mut(K::count().max(1))) {
+        for (k, x) in coordinates.iter_mut().enumerate() {
+            *x = read(*v, k);
         }
     }
 }
@@ -108,22 +96,16 @@ fn pull_each<K: Kind>(
     out: &mut [i64],
 ) {
     let step = PARAMETERS * K::count().min(4).max(1);
-    let mut at = 0;
-    let mut i = 0;
-    for from in wishes.chunks_exact(step) {
-        if i >= answers.len() || at > out.len() || out.len() - at < step {
-            break;
-        }
+    let places = answers.iter_mut().zip(out.chunks_exact_mut(step));
+    for (from, (answer, to)) in wishes.chunks_exact(step).zip(places) {
         load(from, wanted);
-        answers[i] = match propose(
+        *answer = match propose(
             sheet, values, relations, constants, workings, wanted, proposal, working,
         ) {
             Ok(d) => d,
             Err(refusal) => 0 - refusal.number() as i64,
         };
-        store(proposal, &mut out[at..at + step]);
-        at += step;
-        i += 1;
+        store(proposal, to);
     }
 }
 
@@ -154,6 +136,7 @@ fn pull_all<K: Kind>(
     Ok(())
 }
 
+// What C is told of it: 0, or the number of the refusal.
 fn answer(done: Result<(), Refusal>) -> u8 {
     match done {
         Ok(()) => 0,
@@ -183,7 +166,8 @@ pub extern "C" fn valetwren_pull_lengths(
     ))
 }
 
-// Pulls on a sheet of points: 0, or the number of the refusal before the first pull.
+// Pulls on a sheet of points: 0, or the number of the refusal before the first pull. C links no generic function, so that each
+// kind has a name of its own.
 #[unsafe(no_mangle)]
 pub extern "C" fn valetwren_pull_points(
     count: usize,

@@ -1,12 +1,14 @@
 use records::Refusal;
 
-// What a call gave back.
+// What an accepted call gives back.
 #[derive(Drop)]
-pub enum Answer<K> {
-    Done,
+pub enum Given<K> {
+    Nothing,
     // the numbers of the spare relations, after a grip
     Spares(Vec<usize>),
     // the denominator and the numerators of the proposal, after a pull
     Placing(i64, Vec<K>),
-    Refused(Refusal),
 }
+
+// What a call gave back, or why it was refused.
+pub type Answer<K> = Result<Given<K>, Refusal>;

@@ -4,5 +4,5 @@
 mod answer;
 mod call;
 
-pub use answer::Answer;
+pub use answer::{Answer, Given};
 pub use call::Call;

@@ -1,6 +1,6 @@
 -- What the writer's steps append.
-use Rattle.std.proofs.Common.{◌≡◌, ℕ, zero, suc, ◌+◌, ◌<◌, ◌≤◌, List, [], ◌∷◌, ◌++◌, length, get_or, take, ℤ, Ok, Err, Result, sym, refl, ap, ◌∙◌, subst, append_assoc, append-nil, arith}
-use Rattle.std.proofs.lemmas.List.{take_more, take_all}
+use Rattle.std.proofs.Common.{◌≡◌, ℕ, zero, suc, ◌+◌, ◌<◌, List, [], ◌∷◌, ◌++◌, length, get_or, take, ℤ, Ok, Err, Result, sym, refl, ap, ◌∙◌, subst, append_assoc, append-nil, arith}
+use Rattle.std.proofs.lemmas.List.{take_more}
 use Rattle.words.specs.declared.fault.Fault.{Fault}
 use Rattle.forms.specs.Forms.{PutWord}
 use Rattle.forms.specs.Rows.{Each}
@@ -39,9 +39,6 @@ module _ {V : Type 0} (form : List ℕ → V → Type 0) where
       none (y ∷ xs) i l e [] x = x
       none (y ∷ xs) zero l e (w ∷ ws) x = h (w ∷ []) (w, refl, subst (form w) (sym e) x.0)
       none (y ∷ xs) (suc i) l e (w ∷ ws) x = none xs i (omega arith) e ws x.1
-
-  pub put_all : (xs : List V) (i : ℕ) (before after : List ℕ) → length xs ≤ i → Appended xs i before after → (ws : List (List ℕ)) × (after ≡ before ++ spaced ws) × Each form ws xs
-  put_all xs i before after l m = (m.0, m.1, subst (Each form m.0) (take_all i xs l) m.2)
 
 module _ {V : Type 0} (form : List ℕ → V → Type 0) (count : ℕ) where
   pub put_constant : (r : Result (Unit {0}) Fault) (cs : List ℤ) (q : V) (before mid after : List ℕ) → (m : (ws : List (List ℕ)) × (mid ≡ before ++ spaced ws) × ((length cs ≡ count) × Each Number ws cs)) → PutWords (OneWord form q) mid after r → PutWords (λ ws. Values form count ws (binds cs q)) before after r

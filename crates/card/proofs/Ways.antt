@@ -1,24 +1,25 @@
 -- One way to write a line, and one way to read it.
-use Rattle.std.proofs.Common.{◌≡◌, ℕ, ◌<◌, ◌≤◌, ◌⊎◌, List, [], ◌∷◌, ◌++◌, length, take, drop, Ok, Err, Result, sym, refl, ap, ◌∙◌, subst, ⊎_elim, arith}
+use Rattle.std.proofs.Common.{◌≡◌, ℕ, ◌<◌, ◌≤◌, ◌⊎◌, List, [], ◌∷◌, ◌++◌, length, take, Ok, Err, Result, sym, refl, ap, ◌∙◌, subst, ⊎_elim, arith}
 use Rattle.words.specs.declared.fault.Fault.{Fault}
 use Rattle.cells.specs.declared.verb.Verb.{Verb}
 use Rattle.words.specs.Numbers.{Number}
 use Rattle.words.specs.Words.{joined_by, spaced, pieces}
 use Rattle.forms.specs.Forms.{Forms}
 use Rattle.cells.specs.Cells.{CellForm}
-use Rattle.cells.specs.Verbs.{verb_word}
+use Rattle.cells.specs.Verbs.{verb_word, verb_laws}
 use Rattle.forms.specs.Rows.{Each}
 use Rattle.words.specs.Faults.{Refuses}
 use Rattle.words.specs.Lines.{Placed}
 use Rattle.lines.specs.Lines.{Said, binds, unbinds, grips, pulls, keeps, drops, said, verb_of, Values, Spelled, LineRead}
-use Rattle.lines.specs.declared.line.Line.{Line}
+use Rattle.calls.specs.declared.call.Call.{Call}
+use Rattle.cells.specs.declared.cell.Cell.{Cell}
 use Rattle.card.specs.Writes.{Worded, LineWritten, Copied, Reread}
 use Rattle.forms.proofs.Rows.{each-length}
 use Rattle.forms.specs.Laws.{number_laws}
 use Rattle.cells.specs.Laws.{cell_laws}
-use Rattle.lines.proofs.Sayings.{append-parts}
+use Rattle.lines.proofs.Sayings.{append-parts, as-bind, as-unbind, as-grip, as-pull, as-keep, as-drop}
 use Rattle.words.proofs.Appends.{refuses_map}
-use Rattle.lines.proofs.Whole.{values_lack, verb_lacks, verb-once}
+use Rattle.lines.proofs.Whole.{values_lack}
 use Rattle.words.proofs.Cuts.{pieces-joined, joined-spaced}
 use Rattle.std.proofs.lemmas.List.{same_from_push}
 
@@ -76,60 +77,30 @@ module _ {V : Type 0} (form : List ℕ → V → Type 0) (laws : Forms form) (co
       ⊎_elim (λ l. absurd (omega (arith, p.short))) (λ l. omega arith) long
 
   values-once : (ws : List (List ℕ)) (s t : Said V) → verb_of s ≡ verb_of t → Values form count ws s → Values form count ws t → s ≡ t
-  values-once ws (binds cs q) (binds ds r) e x y =
+  values-once ws (binds cs q) t e x = as-bind (λ t. Values form count ws t → binds cs q ≡ t) (λ ds r y.
       let long : length x.0 ≡ length y.0 = omega (arith, each-length Number x.0 cs x.4, x.3, each-length Number y.0 ds y.4, y.3) in
       let parts = append-parts x.0 (x.1 ∷ []) y.0 (y.1 ∷ []) long (sym x.2 ∙ y.2) in
       let last : x.1 ≡ y.1 = let p = parts.1 in cc in
       let a = each-values Number number_laws y.0 cs ds (subst (λ l. Each Number l cs) parts.0 x.4) y.4 in
       let b = laws.one_value y.1 q r (subst (λ w. form w q) last x.5) y.5 in
-      (λ i. binds (a i) (b i))
-  values-once ws (unbinds m) (unbinds n) e x y =
+      (λ i. binds (a i) (b i))) t (sym e)
+  values-once ws (unbinds m) t e x = as-unbind (λ t. Values form count ws t → unbinds m ≡ t) (λ n y.
       let same : x.0 ≡ y.0 = let p = x.1 in let q = y.1 in cc in
-      ap unbinds (number_laws.one_value y.0 m n (subst (λ w. Number w m) same x.2) y.2)
-  values-once ws (grips xs) (grips ys) e x y = ap grips (each-values CellForm cell_laws ws xs ys x.1 y.1)
-  values-once ws (pulls xs) (pulls ys) e x y = ap pulls (each-values form laws ws xs ys x.1 y.1)
-  values-once ws keeps keeps e x y = refl
-  values-once ws drops drops e x y = refl
-  values-once ws (binds a1 a2) (unbinds b1) e x y = let z : ◌≡◌ {A = ℕ} 0 1 = cc in absurd (omega arith)
-  values-once ws (binds a1 a2) (grips b1) e x y = let z : ◌≡◌ {A = ℕ} 0 1 = cc in absurd (omega arith)
-  values-once ws (binds a1 a2) (pulls b1) e x y = let z : ◌≡◌ {A = ℕ} 0 1 = cc in absurd (omega arith)
-  values-once ws (binds a1 a2) keeps e x y = let z : ◌≡◌ {A = ℕ} 0 1 = cc in absurd (omega arith)
-  values-once ws (binds a1 a2) drops e x y = let z : ◌≡◌ {A = ℕ} 0 1 = cc in absurd (omega arith)
-  values-once ws (unbinds a1) (binds b1 b2) e x y = let z : ◌≡◌ {A = ℕ} 0 1 = cc in absurd (omega arith)
-  values-once ws (unbinds a1) (grips b1) e x y = let z : ◌≡◌ {A = ℕ} 0 1 = cc in absurd (omega arith)
-  values-once ws (unbinds a1) (pulls b1) e x y = let z : ◌≡◌ {A = ℕ} 0 1 = cc in absurd (omega arith)
-  values-once ws (unbinds a1) keeps e x y = let z : ◌≡◌ {A = ℕ} 0 1 = cc in absurd (omega arith)
-  values-once ws (unbinds a1) drops e x y = let z : ◌≡◌ {A = ℕ} 0 1 = cc in absurd (omega arith)
-  values-once ws (grips a1) (binds b1 b2) e x y = let z : ◌≡◌ {A = ℕ} 0 1 = cc in absurd (omega arith)
-  values-once ws (grips a1) (unbinds b1) e x y = let z : ◌≡◌ {A = ℕ} 0 1 = cc in absurd (omega arith)
-  values-once ws (grips a1) (pulls b1) e x y = let z : ◌≡◌ {A = ℕ} 0 1 = cc in absurd (omega arith)
-  values-once ws (grips a1) keeps e x y = let z : ◌≡◌ {A = ℕ} 0 1 = cc in absurd (omega arith)
-  values-once ws (grips a1) drops e x y = let z : ◌≡◌ {A = ℕ} 0 1 = cc in absurd (omega arith)
-  values-once ws (pulls a1) (binds b1 b2) e x y = let z : ◌≡◌ {A = ℕ} 0 1 = cc in absurd (omega arith)
-  values-once ws (pulls a1) (unbinds b1) e x y = let z : ◌≡◌ {A = ℕ} 0 1 = cc in absurd (omega arith)
-  values-once ws (pulls a1) (grips b1) e x y = let z : ◌≡◌ {A = ℕ} 0 1 = cc in absurd (omega arith)
-  values-once ws (pulls a1) keeps e x y = let z : ◌≡◌ {A = ℕ} 0 1 = cc in absurd (omega arith)
-  values-once ws (pulls a1) drops e x y = let z : ◌≡◌ {A = ℕ} 0 1 = cc in absurd (omega arith)
-  values-once ws keeps (binds b1 b2) e x y = let z : ◌≡◌ {A = ℕ} 0 1 = cc in absurd (omega arith)
-  values-once ws keeps (unbinds b1) e x y = let z : ◌≡◌ {A = ℕ} 0 1 = cc in absurd (omega arith)
-  values-once ws keeps (grips b1) e x y = let z : ◌≡◌ {A = ℕ} 0 1 = cc in absurd (omega arith)
-  values-once ws keeps (pulls b1) e x y = let z : ◌≡◌ {A = ℕ} 0 1 = cc in absurd (omega arith)
-  values-once ws keeps drops e x y = let z : ◌≡◌ {A = ℕ} 0 1 = cc in absurd (omega arith)
-  values-once ws drops (binds b1 b2) e x y = let z : ◌≡◌ {A = ℕ} 0 1 = cc in absurd (omega arith)
-  values-once ws drops (unbinds b1) e x y = let z : ◌≡◌ {A = ℕ} 0 1 = cc in absurd (omega arith)
-  values-once ws drops (grips b1) e x y = let z : ◌≡◌ {A = ℕ} 0 1 = cc in absurd (omega arith)
-  values-once ws drops (pulls b1) e x y = let z : ◌≡◌ {A = ℕ} 0 1 = cc in absurd (omega arith)
-  values-once ws drops keeps e x y = let z : ◌≡◌ {A = ℕ} 0 1 = cc in absurd (omega arith)
+      ap unbinds (number_laws.one_value y.0 m n (subst (λ w. Number w m) same x.2) y.2)) t (sym e)
+  values-once ws (grips xs) t e x = as-grip (λ t. Values form count ws t → grips xs ≡ t) (λ ys y. ap grips (each-values CellForm cell_laws ws xs ys x.1 y.1)) t (sym e)
+  values-once ws (pulls xs) t e x = as-pull (λ t. Values form count ws t → pulls xs ≡ t) (λ ys y. ap pulls (each-values form laws ws xs ys x.1 y.1)) t (sym e)
+  values-once ws keeps t e x = as-keep (λ t. Values form count ws t → keeps ≡ t) (λ y. refl) t (sym e)
+  values-once ws drops t e x = as-drop (λ t. Values form count ws t → drops ≡ t) (λ y. refl) t (sym e)
 
   -- the same bytes say the same
   pub one_reading : (bs : List ℕ) (s t : Said V) → Spelled form count bs s → Spelled form count bs t → s ≡ t
   one_reading bs s t p q =
-      let first = pieces-joined 32 (verb_word (verb_of s)) p.words (verb_lacks (verb_of s)) (values_lack form laws count p.words s p.values) in
-      let second = pieces-joined 32 (verb_word (verb_of t)) q.words (verb_lacks (verb_of t)) (values_lack form laws count q.words t q.values) in
+      let first = pieces-joined 32 (verb_word (verb_of s)) p.words (verb_laws.spaceless (verb_of s)) (values_lack form laws count p.words s p.values) in
+      let second = pieces-joined 32 (verb_word (verb_of t)) q.words (verb_laws.spaceless (verb_of t)) (values_lack form laws count q.words t q.values) in
       let all : (verb_word (verb_of s) ∷ p.words) ≡ (verb_word (verb_of t) ∷ q.words) = sym first ∙ ap (pieces 32) (same_from_push _ _ 10 10 (sym p.joined ∙ q.joined)).0 ∙ second in
       let word : verb_word (verb_of s) ≡ verb_word (verb_of t) = cc in
       let rest : p.words ≡ q.words = cc in
-      values-once q.words s t (verb-once (verb_of s) (verb_of t) word) (subst (λ ws. Values form count ws s) rest p.values) q.values
+      values-once q.words s t (verb_laws.once (verb_of s) (verb_of t) word) (subst (λ ws. Values form count ws s) rest p.values) q.values
 
 module _ {V : Type 0} (form : List ℕ → V → Type 0) (laws : Forms form) (count : ℕ) (s : Said V) where
   pub written : (text line before after : List ℕ) (r : Result ℕ Fault) → line ≡ text → Worded form count text s → Placed line before after r → LineWritten form count s before after r
@@ -149,6 +120,6 @@ module _ {V : Type 0} (form : List ℕ → V → Type 0) (laws : Forms form) (co
   pub copied : (t : Said V) (line before after : List ℕ) (r : Result ℕ Fault) → Spelled form count line s → LineWritten form count t before after r → t ≡ s → Copied form count line before after r
   copied t line before after r p h e = let P : Said V → Type 0 = λ x. LineWritten form count x before after r in same_copied line before after r p (subst P e h)
 
-  pub reread : (before after : List ℕ) (n m : ℕ) (r : Result (Line V) Fault) → LineWritten form count s before after (Ok n) → LineRead form count (take m (drop 0 after)) r → m ≡ n → Reread form count s before after r
-  reread before after n m (Ok x) p h e = (one_reading form laws count (take n after) (said x) s (subst (λ k. Spelled form count (take k after) (said x)) e h) p.0, (n, p))
-  reread before after n m (Err x) p h e = refuses_map x _ _ (λ no. absurd (no s (subst (λ k. Spelled form count (take k after) s) (sym e) p.0))) h
+  pub reread : (before after : List ℕ) (n : ℕ) (r : Result (Call V Cell) Fault) → LineWritten form count s before after (Ok n) → LineRead form count (take n after) r → Reread form count s before after r
+  reread before after n (Ok x) p h = (one_reading form laws count (take n after) (said x) s h p.0, (n, p))
+  reread before after n (Err x) p h = refuses_map x _ _ (λ no. absurd (no s p.0)) h

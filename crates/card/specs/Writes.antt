@@ -4,7 +4,8 @@ use Rattle.words.specs.declared.fault.Fault.{Fault}
 use Rattle.words.specs.Faults.{Refuses}
 use Rattle.words.specs.Words.{joined_by, spaced}
 use Rattle.cells.specs.Verbs.{verb_word}
-use Rattle.lines.specs.declared.line.Line.{Line}
+use Rattle.calls.specs.declared.call.Call.{Call}
+use Rattle.cells.specs.declared.cell.Cell.{Cell}
 use Rattle.lines.specs.Lines.{Said, said, verb_of, Values, Spelled}
 
 -- words that are of the form were appended, each behind a space, or no words are of the form
@@ -45,6 +46,6 @@ Copied form count line before after (Ok n) = ((s : Said _) × Spelled form count
 Copied form count line before after (Err e) = (after ≡ before) × Refuses e ((s : Said _) → Spelled form count line s → length before < length line)
 
 -- written and read back, a line says the same, and the list holds its bytes; refused only where no spelling of it fits the list
-abbrev pub Reread : {V : Type 0} → (List ℕ → V → Type 0) → ℕ → Said V → List ℕ → List ℕ → Result (Line V) Fault → Type 0
+abbrev pub Reread : {V : Type 0} → (List ℕ → V → Type 0) → ℕ → Said V → List ℕ → List ℕ → Result (Call V Cell) Fault → Type 0
 Reread form count s before after (Ok x) = (said x ≡ s) × ((n : ℕ) × LineWritten form count s before after (Ok n))
 Reread form count s before after (Err e) = Refuses e ((after ≡ before) × ((bs : List ℕ) → Spelled form count bs s → length before < length bs))

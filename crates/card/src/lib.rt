@@ -1,7 +1,7 @@
 // Lines of a card, written from their calls and values, and the two ways back.
 #![tactic(auto)]
 
-mod put;
+mod draft;
 mod trip;
 mod write;
 

@@ -9,12 +9,10 @@ use std::alloc::Global;
 use words::Fault;
 
 // Bytes spell one line at most, and a line has one spelling at most.
-pub fn laws_of_lines<V: Written>() -> u8
+pub fn laws_of_lines<V: Written>()
     ensures reading { OneReading V.form }
     ensures spelling { OneSpelling V.form }
-{
-    0
-}
+{}
 
 // Reads a line and writes it back.
 pub fn copy_line<V: Written>(
@@ -39,5 +37,5 @@ pub fn reread_line<V: Written>(
     ensures { Reread V.form count (said line.now) space.old space.new result }
 {
     let size = write_line(heap, count, line, space)?;
-    read_line(heap, count, &space[0..size])
+    read_line(heap, count, &space[..size])
 }

@@ -2,8 +2,8 @@
 ghost use Rattle.lines.specs.Lines.{said};
 ghost use Rattle.card.specs.Writes.{LineWritten, LineBytes};
 
-use super::put::{put_rest, verb_of};
-use forms::{Written, append_bytes};
+use super::draft::{Draft, verb_of};
+use forms::{Keyword, Written, append_bytes};
 use lines::Line;
 use std::alloc::Global;
 use words::{Fault, place_line};
@@ -12,12 +12,15 @@ use words::{Fault, place_line};
 fn line_bytes<V: Written>(heap: Global, count: usize, line: &Line<V>) -> Result<Vec<u8>, Fault>
     ensures { LineBytes V.form count (said line.now) result }
 {
-    let mut text = Vec::new(heap);
+    let mut draft = Draft {
+        count,
+        text: Vec::new(heap),
+    };
     let verb = verb_of(line);
-    verb.put(&mut text)?;
-    put_rest(line, count, &mut text)?;
-    append_bytes(b"\n", &mut text)?;
-    Ok(text)
+    verb.put(&mut draft.text)?;
+    draft.put_rest(line)?;
+    append_bytes(b"\n", &mut draft.text)?;
+    Ok(draft.text)
 }
 
 // Writes the line's bytes at the front of `out`, and tells how many.

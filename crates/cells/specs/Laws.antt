@@ -1,10 +1,9 @@
 -- The laws of the cells: one value to a word, one word to a value, and no space in a word.
-use Rattle.std.specs.Prelude.{◌≡◌, ℕ, zero, suc, ◌<◌, ◌≤◌, List, [], ◌∷◌, ◌++◌, length, ℤ, pos, negsuc, Ok, Err, Result, ◌≢◌, slice_index, refl}
+use Rattle.std.specs.Prelude.{◌≡◌, ℕ, zero, suc, ◌<◌, ◌≤◌, List, [], ◌∷◌, length, ℤ, pos, negsuc, Ok, Err, Result, ◌≢◌, refl}
 use Rattle.std.proofs.Common.{sym, ap, subst, ◌∙◌, arith}
 use Rattle.std.proofs.lemmas.Str.Parse.{digit_at}
 use Rattle.words.specs.declared.fault.Fault.{Fault}
 use Rattle.words.specs.Numbers.{Number}
-use Rattle.words.specs.Faults.{Done, Refuses}
 use Rattle.words.proofs.Digits.{number-once}
 use Rattle.forms.specs.Laws.{number_laws}
 use Rattle.forms.specs.Forms.{Forms, Visible, PutWord}
@@ -63,11 +62,6 @@ cell_visible w (Weighted n) p = number_laws.visible w n p
 pub cell_laws : Forms CellForm
 cell_laws = record { one_value = cell_once; one_word = cell_word; visible = cell_visible }
 
-pub one_byte : (w : List ℕ) (b : ℕ) → length w ≡ 1 → slice_index w 0 ≡ b → w ≡ b ∷ []
-one_byte [] b l e = absurd (omega arith)
-one_byte (c ∷ []) b l e = ap (λ x. x ∷ []) e
-one_byte (c ∷ d ∷ w) b l e = absurd (omega arith)
-
 pub put_weight : (r : Result (Unit {0}) Fault) (cell : Cell) (m n : ℤ) (before after : List ℕ) → cell ≡ Weighted n → m ≡ n → PutWord Number m before after r → PutWord CellForm cell before after r
 put_weight r cell m n before after e same h =
     let P : ℤ → Type 0 = λ z. PutWord Number z before after r in
@@ -77,7 +71,3 @@ put_weight r cell m n before after e same h =
     same_put : (r : Result (Unit {0}) Fault) (n : ℤ) (before after : List ℕ) → PutWord Number n before after r → PutWord CellForm (Weighted n) before after r
     same_put (Ok x) n before after h = h
     same_put (Err x) n before after h = h
-
-pub put_mark : (r : Result (Unit {0}) Fault) (cell : Cell) (b : ℕ) (before after : List ℕ) → CellForm (b ∷ []) cell → Done r (after ≡ before ++ b ∷ []) → PutWord CellForm cell before after r
-put_mark (Ok x) cell b before after f h = (b ∷ [], h, f)
-put_mark (Err e) cell b before after f h = let P : Fault → Type 0 = λ x. Refuses x ((w : List ℕ) → CellForm w cell → ⊥) in subst P (sym h) tt

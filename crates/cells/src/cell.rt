@@ -24,12 +24,12 @@ pub enum Cell {
 // The weight of a loose parameter whose weight is not written.
 const DEFAULT_WEIGHT: i64 = 1;
 
-impl Cell {
-    // The role that the cell gives its parameter.
-    pub fn role(self) -> Role
-        ensures { result ≡ role_of self }
-    {
-        match self {
+// The role that the cell gives its parameter.
+impl From<Cell> for Role {
+    ghost from_gives = { λ cell role. role ≡ role_of cell };
+
+    fn from(cell: Cell) -> Role {
+        match cell {
             Cell::Held => Role::Held,
             Cell::Pulled => Role::Pulled,
             Cell::Loose => Role::Loose(DEFAULT_WEIGHT),
@@ -42,10 +42,10 @@ impl Cell {
 fn parse_mark(bytes: &[u8]) -> Option<Cell>
     ensures { Exactly Marked bytes.now result }
 {
-    if bytes.len() != 1 {
+    let [mark] = bytes else {
         return None;
-    }
-    match bytes[0] as char {
+    };
+    match *mark as char {
         '.' => Some(Cell::Held),
         '*' => Some(Cell::Pulled),
         '~' => Some(Cell::Loose),
@@ -57,10 +57,7 @@ fn parse_mark(bytes: &[u8]) -> Option<Cell>
 fn parse_weight(bytes: &[u8]) -> Option<Cell>
     ensures { Exactly Weighed bytes.now result }
 {
-    match parse_number(bytes) {
-        Some(n) => Some(Cell::Weighted(n)),
-        None => None,
-    }
+    parse_number(bytes).map(Cell::Weighted)
 }
 
 impl Written for Cell {

@@ -6,13 +6,12 @@ use Rattle.rules.specs.Sheets as rules
 use Rattle.rules.specs.Calls.{opening}
 use Rattle.rules.specs.Runs as runs
 use Rattle.rules.specs.Values.{Coords}
-use Rattle.calls.specs.declared.answer.Answer.{Answer}
-use Rattle.calls.specs.Shown.{reply_of}
+use Rattle.calls.specs.Shown.{Answer, reply_of}
 use Rattle.steps.specs.Lists.{by_parameter, by_relation, by_working, no_relations}
 use Rattle.steps.specs.Steps.{use_in}
 use Rattle.desk.specs.declared.desk.Desk.{Desk}
-use Rattle.desk.specs.declared.opening.Fault.{Fault}
-use Rattle.desk.specs.declared.opening.Fault.TheVariants.{Refused, Memory}
+use Rattle.desk.specs.declared.fault.Fault.{Fault}
+use Rattle.desk.specs.declared.fault.Fault.TheVariants.{Refused, Memory}
 
 abbrev pub use_of : {K : Type 0} → (K → Coords) → Desk K → runs.Use
 use_of f desk = use_in f desk.lists desk.state

@@ -1,4 +1,5 @@
-// One call on a desk.
+// One call on a desk. A call and a state are values of closed enums, whose every pair the rules answer: a match says so, a table
+// of closures would not.
 ghost use Rattle.std.specs.Prelude.{◌≡◌, Err};
 ghost use Rattle.rules.specs.Runs as runs;
 ghost use Rattle.calls.specs.Shown.{call_of};
@@ -9,21 +10,20 @@ ghost use Rattle.steps.specs.Steps.{in_use, SteppedIn};
 ghost use Rattle.desk.specs.Desks.{Called, use_of};
 
 use crate::desk::Desk;
-use calls::{Answer, Call};
-use grips::{Grip, Proposed, Unproposed};
+use calls::{Answer, Call, Given};
+use grips::{Proposed, Unproposed};
 use kinds::Kind;
-use records::Refusal;
+use records::{Refusal, Role};
 use sheets::Sheet;
 use std::alloc::{AllocError, Global};
-use steps::{Lists, State, bind_step, grip_step, keep_step, pull_step, unbind_step};
-use workings::Workings;
+use steps::{Held, Lists, State, bind_step, grip_step, keep_step, pull_step, unbind_step};
 
 // A sheet without a grip takes a binding, an unbinding or a grip.
 fn free_step<K: Kind>(
     heap: Global,
     lists: &mut Lists<K>,
     sheet: Sheet,
-    call: &Call<K>,
+    call: &Call<K, Role>,
 ) -> Result<(State, Answer<K>), AllocError>
     ensures { SteppedIn K.coords (runs.step K.size (in_use K.coords lists.old (numbers sheet) runs.free) (call_of K.coords call.now)) lists.new result }
 {
@@ -32,7 +32,7 @@ fn free_step<K: Kind>(
         Call::Unbind(number) => Ok(unbind_step(lists, sheet, *number)),
         Call::Grip(roles) => grip_step(heap, lists, sheet, roles),
         Call::Pull(_) | Call::Keep | Call::Drop => {
-            Ok((State::Free(sheet), Answer::Refused(Refusal::NotOpen)))
+            Ok((State::Free(sheet), Err(Refusal::NotOpen)))
         }
     }
 }
@@ -41,18 +41,17 @@ fn free_step<K: Kind>(
 fn gripped_step<K: Kind>(
     heap: Global,
     lists: &mut Lists<K>,
-    grip: Grip<Unproposed>,
-    workings: Box<Workings>,
-    call: &Call<K>,
+    held: Held<Unproposed>,
+    call: &Call<K, Role>,
 ) -> Result<(State, Answer<K>), AllocError>
-    ensures { SteppedIn K.coords (runs.step K.size (in_use K.coords lists.old (gripped_sheet grip) (runs.gripped (shown workings.value))) (call_of K.coords call.now)) lists.new result }
+    ensures { SteppedIn K.coords (runs.step K.size (in_use K.coords lists.old (gripped_sheet held.grip) (runs.gripped (shown held.workings.value))) (call_of K.coords call.now)) lists.new result }
 {
     match call {
-        Call::Pull(wishes) => pull_step(heap, lists, grip, workings, wishes),
-        Call::Drop => Ok((State::Free(grip.release()), Answer::Done)),
+        Call::Pull(wishes) => pull_step(heap, lists, held, wishes),
+        Call::Drop => Ok((State::Free(held.release()), Ok(Given::Nothing))),
         Call::Bind(_, _) | Call::Unbind(_) | Call::Grip(_) | Call::Keep => Ok((
-            State::Gripped(grip, workings),
-            Answer::Refused(Refusal::NotOpen),
+            State::Gripped(held),
+            Err(Refusal::NotOpen),
         )),
     }
 }
@@ -61,36 +60,38 @@ fn gripped_step<K: Kind>(
 fn proposed_step<K: Kind>(
     heap: Global,
     lists: &mut Lists<K>,
-    grip: Grip<Proposed>,
-    workings: Box<Workings>,
+    held: Held<Proposed>,
     denominator: i64,
-    call: &Call<K>,
+    call: &Call<K, Role>,
 ) -> Result<(State, Answer<K>), AllocError>
-    ensures { SteppedIn K.coords (runs.step K.size (in_use K.coords lists.old (gripped_sheet grip) (runs.proposing (shown workings.value) denominator)) (call_of K.coords call.now)) lists.new result }
+    ensures { SteppedIn K.coords (runs.step K.size (in_use K.coords lists.old (gripped_sheet held.grip) (runs.proposing (shown held.workings.value) denominator)) (call_of K.coords call.now)) lists.new result }
 {
     match call {
-        Call::Pull(wishes) => pull_step(heap, lists, grip, workings, wishes),
-        Call::Keep => Ok(keep_step(lists, grip, workings, denominator)),
-        Call::Drop => Ok((State::Free(grip.release()), Answer::Done)),
+        Call::Pull(wishes) => pull_step(heap, lists, held, wishes),
+        Call::Keep => Ok(keep_step(lists, held, denominator)),
+        Call::Drop => Ok((State::Free(held.release()), Ok(Given::Nothing))),
         Call::Bind(_, _) | Call::Unbind(_) | Call::Grip(_) => Ok((
-            State::Proposed(grip, workings, denominator),
-            Answer::Refused(Refusal::NotOpen),
+            State::Proposed(held, denominator),
+            Err(Refusal::NotOpen),
         )),
     }
 }
 
 impl<K: Kind> Desk<K> {
     // Makes a call, and tells what it gave back. A call that is not open in the present state is refused; without memory for what it gives back there is no desk left.
-    pub fn call(self, heap: Global, call: &Call<K>) -> Result<(Desk<K>, Answer<K>), AllocError>
+    pub fn call(
+        self,
+        heap: Global,
+        call: &Call<K, Role>,
+    ) -> Result<(Desk<K>, Answer<K>), AllocError>
         ensures { Called K.coords (runs.step K.size (use_of K.coords self) (call_of K.coords call.now)) result }
     {
-        let Desk { lists, state } = self;
-        let mut lists = lists;
+        let Desk { mut lists, state } = self;
         let stepped = match state {
             State::Free(sheet) => free_step(heap, &mut lists, sheet, call),
-            State::Gripped(grip, workings) => gripped_step(heap, &mut lists, grip, workings, call),
-            State::Proposed(grip, workings, denominator) => {
-                proposed_step(heap, &mut lists, grip, workings, denominator, call)
+            State::Gripped(held) => gripped_step(heap, &mut lists, held, call),
+            State::Proposed(held, denominator) => {
+                proposed_step(heap, &mut lists, held, denominator, call)
             }
         };
         let (state, answer) = stepped?;

@@ -22,8 +22,8 @@ impl<K: Kind> Desk<K> {
         let Desk { lists, state } = self;
         let sheet = match state {
             State::Free(sheet) => sheet,
-            State::Gripped(grip, _) => grip.release(),
-            State::Proposed(grip, _, _) => grip.release(),
+            State::Gripped(held) => held.release(),
+            State::Proposed(held, _) => held.release(),
         };
         let mut values = lists.values;
         values.truncate(sheet.count());

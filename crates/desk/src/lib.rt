@@ -4,8 +4,9 @@
 mod calling;
 mod closing;
 mod desk;
+mod fault;
 mod opening;
 
 pub use closing::Closed;
 pub use desk::Desk;
-pub use opening::Fault;
+pub use fault::Fault;

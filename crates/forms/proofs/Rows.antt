@@ -22,16 +22,13 @@ module _ {V : Type 0} (form : List ℕ → V → Type 0) where
   each_at (w ∷ ws) (x ∷ xs) zero e l = (x, e.0)
   each_at (w ∷ ws) (x ∷ xs) (suc i) e l = each_at ws xs i e.1 (omega arith)
 
-  pub none_yet : (before : List (List ℕ)) → Row form 0 before before []
-  none_yet before = ([], refl, refl, tt)
-
   -- one value more
-  pub one_more : (i : ℕ) (before middle after : List (List ℕ)) (xs : List V) (x : V) → Row form i before middle xs → OneRead form middle after (Some x) → Row form (i + 1) before after (xs ++ x ∷ [])
-  one_more i before middle after xs x m o = (
+  pub one_more : (i : ℕ) (before middle after : List (List ℕ)) (xs ys : List V) (x : V) → ys ≡ xs ++ x ∷ [] → Row form i before middle xs → OneRead form middle after (Some x) → Row form (i + 1) before after ys
+  one_more i before middle after xs ys x e m o = (
     m.0 ++ o.0 ∷ [],
     m.1 ∙ ap (λ l. m.0 ++ l) o.1 ∙ sym (append_assoc m.0 (o.0 ∷ []) after),
-    length_push xs x ∙ ap (λ n. n + 1) m.2,
-    each_push m.0 xs o.0 x m.3 o.2,
+    ap length e ∙ length_push xs x ∙ ap (λ n. n + 1) m.2,
+    subst (Each form (m.0 ++ o.0 ∷ [])) (sym e) (each_push m.0 xs o.0 x m.3 o.2),
   )
 
   -- a word that writes no value stops them all

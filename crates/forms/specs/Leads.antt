@@ -1,6 +1,6 @@
 -- The sort of a word that writes a value.
-use Rattle.std.specs.Prelude.{◌≡◌, ℕ, ◌≤◌, Bool, true, List, [], ◌∷◌, length, ℤ, pos, negsuc, Some, None, Option}
-use Rattle.std.proofs.Common.{sym, ap, subst, ◌∙◌, arith}
+use Rattle.std.specs.Prelude.{◌≡◌, ℕ, ◌≤◌, Bool, true, List, [], ◌∷◌, ℤ, pos, negsuc, Some, None, Option}
+use Rattle.std.proofs.Common.{ap, subst, ◌∙◌, arith}
 use Rattle.std.proofs.lemmas.Str.Parse.{digit_at}
 use Rattle.std.proofs.lemmas.Bool.Decides.{nat_tests}
 use Rattle.words.specs.Numbers.{Number, Exactly}
@@ -33,6 +33,3 @@ first_read word_of by before after x (Some y) s n h = (text_of x, n.0, h.says)
 first_read word_of by before after x None s n h = λ u rest y e f.
     let same : text_of x ≡ u = let d = n.0 in cc in
     h y (record { sorted = n.2 ∙ (λ i. sort_of (s i) ((same ∙ f) i)) ∙ by y; says = same ∙ f })
-
-pub none_read : {X : Type 0} (form : List ℕ → X → Type 0) (ws after : List (List ℕ)) → ws ≡ [] → OneRead form ws after None
-none_read form ws after e = λ u rest y d f. omega (arith, ap length (sym e ∙ d))

@@ -1,4 +1,5 @@
 pub mod Forms
+pub mod Keywords
 pub mod Values
 pub mod Rows
 pub mod Points

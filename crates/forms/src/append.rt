@@ -7,8 +7,6 @@ use words::Fault;
 pub fn append_bytes(bytes: &[u8], out: &mut Vec<u8>) -> Result<(), Fault>
     ensures { Done result (out.new.items ≡ out.old.items ++ bytes.now) }
 {
-    match out.extend_from_slice(bytes) {
-        Ok(()) => Ok(()),
-        Err(_) => Err(Fault::Memory),
-    }
+    out.extend_from_slice(bytes)?;
+    Ok(())
 }

@@ -11,10 +11,7 @@ impl Written for Length {
     ghost laws = { length_laws };
 
     fn parse(word: Word<'_>) -> Option<Length> {
-        match i64::parse(word) {
-            Some(x) => Some(Length { x }),
-            None => None,
-        }
+        i64::parse(word).map(|x| Length { x })
     }
 
     fn put(self, out: &mut Vec<u8>) -> Result<(), Fault> {

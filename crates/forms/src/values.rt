@@ -10,9 +10,7 @@ use words::{Fault, Reader};
 pub fn read_value<V: Written>(reader: &mut Reader<'_>) -> Option<V>
     ensures { OneRead V.form (left reader.old) (left reader.new) result }
 {
-    let Some(word) = reader.next() else {
-        return None;
-    };
+    let word = reader.next()?;
     V::parse(word)
 }
 
@@ -26,12 +24,8 @@ pub fn read_values<V: Written>(
 {
     let mut values = Vec::new(heap);
     for i in 0..count {
-        let Some(v) = read_value(reader) else {
-            return Err(Fault::Form);
-        };
-        let Ok(()) = values.push(v) else {
-            return Err(Fault::Memory);
-        };
+        let value = read_value(reader).ok_or(Fault::Form)?;
+        values.push(value)?;
     }
     Ok(values)
 }

@@ -1,5 +1,5 @@
 -- What a grip answers where its lists are long enough and fit.
-use Rattle.std.proofs.Common.{◌≡◌, ℕ, ◌-◌, ◌≤◌, Bool, false, ◌||◌, ltb, List, [], length, take, Ok, Err, Result, sym, ap, ◌∙◌, arith}
+use Rattle.std.proofs.Common.{◌≡◌, ℕ, ◌≤◌, Bool, false, ◌||◌, ltb, List, [], length, take, Ok, Err, Result, sym, ap, ◌∙◌}
 use Rattle.std.proofs.lemmas.List.{length-take-le}
 use Rattle.std.proofs.lemmas.Bool.{le-ltb, ltb-false, or_parts, or_from}
 use Rattle.records.specs.declared.refusal.Refusal.{Refusal}
@@ -18,28 +18,21 @@ use Rattle.workings.proofs.Bonds.{grip_on-bonds, ready_from}
 
 module _ (size : ℕ) (s : Sheet) (vs : List Coords) (rs : List Relation) (qs : List Coords) (roles : List Role) (spare : List ℕ)
     (few : s.count ≤ 48) (h : s.bound ≤ length rs) (long : s.count ≤ length roles) (room : 12 ≤ length spare) (fine : unfit size s vs rs qs ≡ false) where
-  front : take (s.count - 0) roles ≡ take s.count roles
-  front = let e : s.count - 0 ≡ s.count = omega arith in ap (λ (k : ℕ). take k roles) e
+  many : length (take s.count roles) ≡ s.count
+  many = length-take-le s.count roles long
 
-  many : length (take (s.count - 0) roles) ≡ s.count
-  many = ap length front ∙ length-take-le s.count roles long
+  ready : unready (take s.bound rs) (take s.count roles) ≡ false
+  ready = ready_from size s rs qs (take s.count roles) (or_parts (unfit_values size s.count s.d vs) (unfit_relations size s rs qs) fine).1 h many few
 
-  rows : take (s.bound - 0) rs ≡ take s.bound rs
-  rows = let e : s.bound - 0 ≡ s.bound = omega arith in ap (λ (k : ℕ). take k rs) e
-
-  ready : unready (take (s.bound - 0) rs) (take (s.count - 0) roles) ≡ false
-  ready = ap (λ (l : List Relation). unready l (take (s.count - 0) roles)) rows
-      ∙ ready_from size s rs qs (take (s.count - 0) roles) (or_parts (unfit_values size s.count s.d vs) (unfit_relations size s rs qs) fine).1 h many few
-
-  told : grip_on (length (take (s.count - 0) roles)) (take (s.count - 0) roles) (bare (length (take (s.count - 0) roles)) (take (s.bound - 0) rs)) ≡ grip_on s.count (take s.count roles) (bonds s rs qs)
-  told = (λ t. grip_on (many t) (front t) (bare (many t) (rows t))) ∙ sym (grip_on-bonds s (take s.count roles) rs qs h)
+  told : grip_on (length (take s.count roles)) (take s.count roles) (bare (length (take s.count roles)) (take s.bound rs)) ≡ grip_on s.count (take s.count roles) (bonds s rs qs)
+  told = ap (λ (n : ℕ). grip_on n (take s.count roles) (bare n (take s.bound rs))) many ∙ sym (grip_on-bonds s (take s.count roles) rs qs h)
 
   passed : (ltb (length roles) s.count || ltb (length spare) 12 || unfit size s vs rs qs) ≡ false
   passed = or_from (ltb (length roles) s.count || ltb (length spare) 12) _ (or_from (ltb (length roles) s.count) _ (le-ltb _ _ long) (le-ltb _ _ room)) fine
 
-  pub answered : gripped (take (s.bound - 0) rs) (take (s.count - 0) roles) ≡ grip_answer size s vs rs qs roles spare
+  pub answered : gripped (take s.bound rs) (take s.count roles) ≡ grip_answer size s vs rs qs roles spare
   answered =
-      ap (λ (b : Bool). guard b Unfit (grip_on (length (take (s.count - 0) roles)) (take (s.count - 0) roles) (bare (length (take (s.count - 0) roles)) (take (s.bound - 0) rs)))) ready
+      ap (λ (b : Bool). guard b Unfit (grip_on (length (take s.count roles)) (take s.count roles) (bare (length (take s.count roles)) (take s.bound rs)))) ready
       ∙ told ∙ sym (ap (λ (b : Bool). guard b Unfit (grip_on s.count (take s.count roles) (bonds s rs qs))) passed)
 
 -- what an accepted grip tells of its workings
@@ -48,11 +41,15 @@ pub record Accepted (size : ℕ) (s : Sheet) (vs : List Coords) (rs : List Relat
   pub room : 12 ≤ length spare
   pub few : length (counted s.count (take s.count roles) (bonds s rs qs)) ≤ 12
   pub roles_are : w.roles ≡ take s.count roles
-  pub count_is : length w.roles ≡ s.count
+  pub count_is : w.count ≡ s.count
 
 abbrev roles_of : Result Workings Refusal → List Role
 roles_of (Ok w) = w.roles
 roles_of (Err e) = []
+
+abbrev count_of : Result Workings Refusal → ℕ
+count_of (Ok w) = w.count
+count_of (Err e) = 0
 
 pub accepted : (size : ℕ) (s : Sheet) (vs : List Coords) (rs : List Relation) (qs : List Coords) (roles : List Role) (spare : List ℕ) (w : Workings)
     → Ok w ≡ grip_answer size s vs rs qs roles spare → Accepted size s vs rs qs roles spare w
@@ -71,5 +68,5 @@ accepted size s vs rs qs roles spare w e =
       room = ltb-false _ _ d.1;
       few = ltb-false _ _ h.0;
       roles_are = same;
-      count_is = ap length same ∙ length-take-le n roles (ltb-false _ _ d.0);
+      count_is = ap count_of (sym t.2);
     }

@@ -1,9 +1,9 @@
 -- The list of spare relations, one number after the other.
-use Rattle.std.proofs.Common.{◌≡◌, ℕ, zero, suc, ◌+◌, ◌<◌, ◌≤◌, Bool, true, false, cond, List, [], ◌∷◌, ◌++◌, length, get_or, drop, set, ℤ, sym, refl, ap, ◌∙◌, ap₂, zero-add, add-one, arith, length-append}
+use Rattle.std.proofs.Common.{◌≡◌, ℕ, zero, suc, ◌+◌, ◌<◌, ◌≤◌, Bool, true, false, cond, List, [], ◌∷◌, ◌++◌, length, get_or, take, drop, set, ℤ, sym, refl, ap, ◌∙◌, ap₂, zero-add, add-one, arith, length-append}
 use native.Mathlib.Decide.{ℕ_discrete}
 use lib.Seq.{paste, take-append-le, get_or_at}
 use Rattle.std.proofs.lemmas.List.Edits.{paste_more}
-use Rattle.std.proofs.lemmas.List.{append-nil}
+use Rattle.std.proofs.lemmas.List.{append-nil, get_or-take}
 use Rattle.records.specs.declared.relation.Relation.{Relation}
 use Rattle.rules.specs.Values.{written}
 use Rattle.records.specs.declared.relation.Mark.TheVariants.{Idle, Needed, Spare}
@@ -21,6 +21,11 @@ module _ (rs : List Relation) where
 
   pub spare-same : (i : ℕ) → is_spare (relation_at rs i).mark ≡ false → spare_marks rs (i + 1) ≡ spare_marks rs i
   spare-same i e = ap (spare_marks rs) (add-one i) ∙ ap (λ (b : Bool). spare_marks rs i ++ cond b (i ∷ []) []) e ∙ append-nil (spare_marks rs i)
+
+  -- only the relations below k are read
+  pub spare_marks-front : (b k : ℕ) → k ≤ b → spare_marks (take b rs) k ≡ spare_marks rs k
+  spare_marks-front b zero h = refl
+  spare_marks-front b (suc k) h = λ j. spare_marks-front b k (omega arith) j ++ cond (is_spare (get_or-take b rs k (record { coefficients = []; mark = Idle }) (omega arith) j).mark) (k ∷ []) []
 
   -- further on there are no fewer
   pub grows : (k b : ℕ) → k ≤ b → length (spare_marks rs k) ≤ length (spare_marks rs b)

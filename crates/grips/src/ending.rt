@@ -1,6 +1,5 @@
 // The calls that end a grip.
-ghost use Rattle.std.specs.Prelude.{◌≡◌, ◌≤◌, map, length};
-ghost use Rattle.rules.specs.Values.{written};
+ghost use Rattle.std.specs.Prelude.{◌≡◌, map};
 ghost use Rattle.rules.specs.Calls.{keeping, dropping};
 ghost use Rattle.sheets.specs.Shown.{numbers};
 ghost use Rattle.grips.specs.Shown.{gripped_sheet, handing_back, shown_keep};
@@ -9,16 +8,6 @@ use crate::token::{Grip, Proposed, Refused};
 use kinds::Kind;
 use records::{Refusal, Relation};
 use sheets::{Sheet, unfit, unfit_values};
-
-// Copies the first n values of one list over those of another.
-fn copy_front<K: Kind>(n: usize, from: &[K], to: &mut [K])
-    requires { (n ≤ length from.now) × (n ≤ length to.old) }
-    ensures { to.new ≡ written n from.now to.old }
-{
-    for s in 0..n {
-        to[s] = from[s];
-    }
-}
 
 impl<P: Drop> Grip<P> {
     // Ends the grip, and changes no value.
@@ -45,22 +34,17 @@ impl Grip<Proposed> {
         ensures values { map K.coords values.new ≡ (keeping K.size (gripped_sheet self) (map K.coords values.old) relations.now (map K.coords constants.now) (map K.coords proposal.now) denominator).1 }
     {
         let n = self.sheet.count();
-        if unfit(&self.sheet, values, relations, constants) {
+        if unfit(&self.sheet, values, relations, constants)
+            || unfit_values(n, denominator, proposal)
+        {
             return Err(Refused {
                 back: self,
                 refusal: Refusal::Unfit,
             });
         }
-        if unfit_values(n, denominator, proposal) {
-            return Err(Refused {
-                back: self,
-                refusal: Refusal::Unfit,
-            });
-        }
-        let Grip { sheet, state } = self;
+        let Grip { mut sheet, state } = self;
         drop(state);
-        let mut sheet = sheet;
-        copy_front(n, proposal, values);
+        values[..n].copy_from_slice(&proposal[..n]);
         sheet.denominator = denominator;
         Ok(sheet)
     }

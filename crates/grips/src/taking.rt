@@ -35,16 +35,10 @@ fn workings_of<K: Kind>(
 {
     let n = sheet.count();
     let bound = sheet.bound();
-    if roles.len() < n {
+    if roles.len() < n || spare.len() < SPARE_PLACES || unfit(sheet, values, relations, constants) {
         return Err(Refusal::Unfit);
     }
-    if spare.len() < SPARE_PLACES {
-        return Err(Refusal::Unfit);
-    }
-    if unfit(sheet, values, relations, constants) {
-        return Err(Refusal::Unfit);
-    }
-    Workings::make(&relations[0..bound], &roles[0..n])
+    Workings::make(&relations[..bound], &roles[..n])
 }
 
 impl Grip<Unproposed> {
@@ -62,6 +56,7 @@ impl Grip<Unproposed> {
         ensures implied { SparesRightly result (numbers sheet) relations.old (map K.coords constants.now) roles.now relations.new }
         ensures spares { SparesTold result (numbers sheet) relations.old (map K.coords constants.now) spare.old spare.new }
     {
+        // the sheet goes back with the refusal, and on with the workings: no closure of `map_err` can hold it
         let workings = match workings_of(&sheet, values, relations, constants, roles, spare) {
             Ok(workings) => workings,
             Err(refusal) => {
@@ -72,8 +67,8 @@ impl Grip<Unproposed> {
             }
         };
         let bound = sheet.bound();
-        mark_all(relations, bound, workings.roles(), &workings);
-        let spares = write_spares(relations, bound, spare);
+        mark_all(&mut relations[..bound], &workings);
+        let spares = write_spares(&relations[..bound], spare);
         Ok(Gripped {
             grip: Grip {
                 sheet,

@@ -1,6 +1,8 @@
 -- Names read one after the other.
-use Rattle.std.proofs.Common.{◌≡◌, ℕ, zero, suc, ◌+◌, ◌<◌, ◌≤◌, false, ◌⊎◌, List, [], ◌∷◌, ◌++◌, length, get_or, None, vec_items, vec_len, Decides, Vec, sym, refl, ap, ◌∙◌, subst, ⊎_elim, append_assoc, append-nil, arith, length-append, Bor}
+use Rattle.std.proofs.Common.{◌≡◌, ℕ, zero, suc, ◌+◌, ◌<◌, ◌≤◌, false, List, [], ◌∷◌, ◌++◌, length, get_or, None, vec_items, vec_len, Decides, Vec, sym, refl, ap, ◌∙◌, subst, ⊎_elim, append_assoc, append-nil, arith, length-append, Bor}
 use Rattle.std.proofs.lemmas.Bool.{false≢true, cases_lt}
+use Rattle.std.specs.List.{list_any}
+use Rattle.std.proofs.Common.{Bool, true, ◌||◌, take, length-take-le}
 use Rattle.std.proofs.lemmas.List.{get_or_at, get_or_append_left, length_push}
 use Rattle.heading.specs.Names.{Named, Names, Has, NameRead, texts}
 
@@ -20,14 +22,38 @@ texts_push (y ∷ xs) x = ap (λ l. y.now ∷ l) (texts_push xs x)
 pub vec_texts : {G : Type 0} (v : Vec (Bor (List ℕ)) G) → length (texts (vec_items v)) ≡ vec_len v
 vec_texts v = length-texts (vec_items v) ∙ sym v.ok.0
 
-pub has_not : (ws : List (List ℕ)) (count i : ℕ) (w : List ℕ) → ((k : ℕ) → k < i → get_or ws k [] ≡ w → ⊥) → ((count ≤ i) ⊎ (length ws ≤ i)) → Decides false (Has ws count w)
-has_not ws count i w none far = (
-  λ e. absurd (false≢true e),
-  λ h. absurd (none h.0 (⊎_elim (λ l. omega (arith, h.1)) (λ l. omega (arith, h.2)) far) h.3),
-)
+-- a test of the words that tells which are the name tells whether the name is among them
+pub has_told : (E : Bor (List ℕ) → Bool) (w : List ℕ) → ((x : Bor (List ℕ)) → Decides (E x) (x.now ≡ w)) → (xs : List (Bor (List ℕ))) → Decides (list_any E xs) (Has (texts xs) (length xs) w)
+has_told E w is [] = (λ e. absurd (false≢true e), λ h. absurd (omega (arith, h.1)))
+has_told E w is (x ∷ xs) = by (E x) (is x) (list_any E xs) (has_told E w is xs)
+  where
+    later : (r : Bool) → Decides r (Has (texts xs) (length xs) w) → (x.now ≡ w → ⊥) → Decides r (Has (texts (x ∷ xs)) (length (x ∷ xs)) w)
+    later r h n = (λ e. let f = h.0 e in (suc f.0, omega (arith, f.1), omega (arith, f.2), f.3), λ f. back f.0 f.1 f.2 f.3)
+      where
+        back : (i : ℕ) → i < length (x ∷ xs) → i < length (texts (x ∷ xs)) → get_or (texts (x ∷ xs)) i [] ≡ w → r ≡ true
+        back zero l m e = absurd (n e)
+        back (suc i) l m e = h.1 (i, omega arith, omega arith, e)
 
-pub has_same : (us ws : List (List ℕ)) (m n : ℕ) (w : List ℕ) → Has us m w → us ≡ ws → m ≡ n → Has ws n w
-has_same us ws m n w h e f = subst (λ k. Has ws k w) f (subst (λ l. Has l m w) e h)
+    by : (b : Bool) → Decides b (x.now ≡ w) → (r : Bool) → Decides r (Has (texts xs) (length xs) w) → Decides (b || r) (Has (texts (x ∷ xs)) (length (x ∷ xs)) w)
+    by true d r h = (λ e. (0, omega arith, omega arith, d.0 refl), λ f. refl)
+    by false d r h = later r h (λ e. false≢true (d.1 e))
+
+front_at : (xs : List (Bor (List ℕ))) (i k : ℕ) → k < i → get_or (texts (take i xs)) k [] ≡ get_or (texts xs) k []
+front_at xs zero k l = absurd (omega arith)
+front_at [] (suc i) k l = refl
+front_at (x ∷ xs) (suc i) zero l = refl
+front_at (x ∷ xs) (suc i) (suc k) l = front_at xs i k (omega arith)
+
+-- among the first i words of a list
+pub has_front : (xs : List (Bor (List ℕ))) (i : ℕ) (w : List ℕ) (r : Bool) → i ≤ length xs → Decides r (Has (texts (take i xs)) (length (take i xs)) w) → Decides r (Has (texts xs) i w)
+has_front xs i w r l d =
+    let few = length-take-le i xs l in
+    let all = length-texts xs in
+    let front = length-texts (take i xs) in
+    (λ e. let h = d.0 e in (h.0, omega (arith, h.1), omega (arith, h.1), sym (front_at xs i h.0 (omega (arith, h.1))) ∙ h.3), λ h. d.1 (h.0, omega (arith, h.1), omega (arith, h.1), front_at xs i h.0 h.1 ∙ h.3))
+
+pub has_same : (us ws : List (Bor (List ℕ))) (w : List ℕ) (r : Bool) → us ≡ ws → Decides r (Has (texts us) (length us) w) → Decides r (Has (texts ws) (length (texts ws)) w)
+has_same us ws w r e d = subst (λ n. Decides r (Has (texts ws) n w)) (sym (length-texts ws)) (subst (λ l. Decides r (Has (texts l) (length l) w)) e d)
 
 -- the first i words are names, no two the same
 pub record Good (ws : List (List ℕ)) (i : ℕ) : Type 0 where

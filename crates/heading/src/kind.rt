@@ -1,12 +1,7 @@
 // The words for the kinds of value.
-ghost use Rattle.std.specs.Prelude.{◌≡◌, ◌++◌};
-ghost use Rattle.words.specs.Faults.{Done};
-ghost use Rattle.words.specs.Numbers.{Exactly};
-ghost use Rattle.words.specs.Sorts.{Calls};
-ghost use Rattle.heading.specs.Headings.{KindForm, kind_word};
+ghost use Rattle.heading.specs.Headings.{kind_word, kind_laws};
 
-use forms::append_bytes;
-use words::{Fault, Word, same_bytes};
+use forms::Keyword;
 
 // The kind of value that a card's sheet has.
 #[derive(Clone, Copy)]
@@ -15,38 +10,23 @@ pub enum KindWord {
     Point,
 }
 
-// The kind that has this name.
-fn named(bytes: &[u8]) -> Option<KindWord>
-    ensures { Exactly KindForm bytes.now result }
-{
-    if bytes.is_empty() {
-        return None;
-    }
-    match bytes[0] as char {
-        'l' if same_bytes(bytes, b"length") => Some(KindWord::Length),
-        'p' if same_bytes(bytes, b"point") => Some(KindWord::Point),
-        _ => None,
-    }
-}
+impl Keyword for KindWord {
+    ghost spelled = { kind_word };
 
-impl KindWord {
-    // The kind that the card's first word names.
-    pub fn parse(word: Word<'_>) -> Option<KindWord>
-        ensures { Exactly (Calls kind_word) word.entry result }
-    {
-        match word {
-            Word::Verb(bytes) => named(bytes),
+    ghost laws = { kind_laws };
+
+    fn named(bytes: &[u8]) -> Option<KindWord> {
+        match *bytes.first()? as char {
+            'l' if bytes == b"length".as_slice() => Some(KindWord::Length),
+            'p' if bytes == b"point".as_slice() => Some(KindWord::Point),
             _ => None,
         }
     }
 
-    // Appends the kind's name.
-    pub fn put(self, out: &mut Vec<u8>) -> Result<(), Fault>
-        ensures { Done result (out.new.items ≡ out.old.items ++ kind_word self) }
-    {
+    fn spelling(self) -> &'static [u8] {
         match self {
-            KindWord::Length => append_bytes(b"length", out),
-            KindWord::Point => append_bytes(b"point", out),
+            KindWord::Length => b"length",
+            KindWord::Point => b"point",
         }
     }
 }

@@ -6,8 +6,9 @@ ghost use Rattle.heading.specs.Headings.{HeadingRead};
 
 use super::kind::KindWord;
 use super::name::{NAMES, holds, next_name};
+use forms::read_keyword;
 use std::alloc::Global;
-use words::{Fault, Reader, line_text};
+use words::{Fault, Reader};
 
 // What a card's first line says: the kind of value, and the names, each the part of the card that it was read from.
 #[derive(Drop)]
@@ -23,18 +24,11 @@ fn read_names<'a>(heap: Global, reader: &mut Reader<'a>) -> Result<Vec<&'a [u8]>
 {
     let mut names = Vec::new(heap);
     while !reader.at_end() {
-        let Some(name) = next_name(reader) else {
-            return Err(Fault::Form);
-        };
-        if names.len() >= NAMES {
+        let name = next_name(reader).ok_or(Fault::Form)?;
+        if names.len() >= NAMES || holds(names.as_slice(), name) {
             return Err(Fault::Form);
         }
-        if holds(names.as_slice(), names.len(), name) {
-            return Err(Fault::Form);
-        }
-        let Ok(()) = names.push(name) else {
-            return Err(Fault::Memory);
-        };
+        names.push(name)?;
     }
     if names.is_empty() {
         return Err(Fault::Form);
@@ -46,16 +40,7 @@ fn read_names<'a>(heap: Global, reader: &mut Reader<'a>) -> Result<Vec<&'a [u8]>
 pub fn read_heading<'a>(heap: Global, line: &'a [u8]) -> Result<Heading<'a>, Fault>
     ensures { HeadingRead line.now result }
 {
-    let Some(text) = line_text(line) else {
-        return Err(Fault::Form);
-    };
-    let mut reader = Reader::new(text);
-    let Some(word) = reader.next() else {
-        return Err(Fault::Form);
-    };
-    let Some(kind) = KindWord::parse(word) else {
-        return Err(Fault::Form);
-    };
+    let (kind, mut reader) = read_keyword::<KindWord>(line).ok_or(Fault::Form)?;
     let names = read_names(heap, &mut reader)?;
     Ok(Heading { kind, names })
 }

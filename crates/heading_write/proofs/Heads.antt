@@ -1,5 +1,5 @@
 -- One way to write a heading, and one way to read it.
-use Rattle.std.proofs.Common.{◌≡◌, ℕ, ◌+◌, ◌<◌, ◌≤◌, List, [], ◌∷◌, ◌++◌, length, get_or, take, drop, Ok, Err, Result, sym, ap, ◌∙◌, subst, ⊎_elim, append_assoc, append-nil, arith}
+use Rattle.std.proofs.Common.{◌≡◌, ℕ, ◌+◌, ◌<◌, ◌≤◌, List, [], ◌∷◌, ◌++◌, length, get_or, take, Ok, Err, Result, sym, ap, ◌∙◌, subst, ⊎_elim, append_assoc, append-nil, arith}
 use Rattle.std.proofs.lemmas.List.{take_more}
 use Rattle.words.specs.declared.fault.Fault.{Fault}
 use Rattle.words.specs.Faults.{Refuses}
@@ -10,8 +10,8 @@ use Rattle.words.proofs.Cuts.{spaced-append, joined-spaced}
 use Rattle.heading.specs.declared.kind.KindWord.{KindWord}
 use Rattle.heading.specs.declared.read.Heading.{Heading}
 use Rattle.heading.specs.Names.{Names}
-use Rattle.heading.specs.Headings.{kind_word, Headed, names_of, HeadingRead}
-use Rattle.heading.proofs.Heads.{kind_once, headed_words}
+use Rattle.heading.specs.Headings.{kind_word, kind_laws, Headed, names_of, HeadingRead}
+use Rattle.heading.proofs.Heads.{headed_words}
 use Rattle.heading_write.specs.Writes.{HeadingWritten, OneReading, OneSpelling, Reread}
 
 -- one word more, behind a space
@@ -35,7 +35,7 @@ one_reading bs j k ms ns p q =
     let all : (kind_word j ∷ ms) ≡ (kind_word k ∷ ns) = sym (headed_words text j ms (subst P p.joined p)) ∙ headed_words text k ns (subst Q p.joined q) in
     let word : kind_word j ≡ kind_word k = cc in
     let rest : ms ≡ ns = cc in
-    (kind_once j k word, rest)
+    (kind_laws.once j k word, rest)
 
 module _ (kind : KindWord) (names : List (List ℕ)) where
   pub written : (line before after : List ℕ) (r : Result ℕ Fault) → Names names → line ≡ joined_by 32 (kind_word kind ∷ names) ++ 10 ∷ [] → Placed line before after r → HeadingWritten kind names before after r
@@ -44,6 +44,6 @@ module _ (kind : KindWord) (names : List (List ℕ)) where
       let P : Fault → Type 0 = λ y. Refuses y ((bs : List ℕ) → Headed bs kind names → length before < length bs) in
       (p.0, subst P (sym p.1) (λ bs q. let same = ap length (q.joined ∙ sym w) in ⊎_elim (λ l. absurd (omega (arith, q.short))) (λ l. omega arith) p.2))
 
-  pub reread : (before after : List ℕ) (n m : ℕ) (r : Result Heading Fault) → HeadingWritten kind names before after (Ok n) → HeadingRead (take m (drop 0 after)) r → m ≡ n → Reread kind names before r
-  reread before after n m (Ok h) p q e = one_reading (take n after) h.kind kind (names_of h) names (subst (λ k. Headed (take k after) h.kind (names_of h)) e q) p.0
-  reread before after n m (Err x) p q e = refuses_map x _ _ (λ no bs b. absurd (no kind names (subst (λ k. Headed (take k after) kind names) (sym e) p.0))) q
+  pub reread : (before after : List ℕ) (n : ℕ) (r : Result Heading Fault) → HeadingWritten kind names before after (Ok n) → HeadingRead (take n after) r → Reread kind names before r
+  reread before after n (Ok h) p q = one_reading (take n after) h.kind kind (names_of h) names q p.0
+  reread before after n (Err x) p q = refuses_map x _ _ (λ no bs b. absurd (no kind names p.0)) q

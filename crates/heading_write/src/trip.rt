@@ -1,4 +1,5 @@
 // From bytes to a heading and back, and from a heading to bytes and back.
+// Beside the like ways of `card`: a line has a count and a kind of value, and a heading lends its names, so one function for both is no plainer.
 ghost use Rattle.heading.specs.Headings.{names_of};
 ghost use Rattle.heading_write.specs.Writes.{OneReading, OneSpelling, Copied, Reread};
 
@@ -8,12 +9,10 @@ use std::alloc::Global;
 use words::Fault;
 
 // Bytes spell one heading at most, and a heading has one spelling at most.
-pub fn laws_of_headings() -> u8
+pub fn laws_of_headings()
     ensures reading { OneReading }
     ensures spelling { OneSpelling }
-{
-    0
-}
+{}
 
 // Reads a heading and writes it back.
 pub fn copy_heading(heap: Global, line: &[u8], out: &mut [u8]) -> Result<usize, Fault>
@@ -32,5 +31,5 @@ pub fn reread_heading<'a>(
     ensures { Reread heading.now.kind (names_of heading.now) space.old result }
 {
     let size = write_heading(heap, heading, space)?;
-    read_heading(heap, &space[0..size])
+    read_heading(heap, &space[..size])
 }

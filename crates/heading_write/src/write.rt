@@ -6,7 +6,7 @@ ghost use Rattle.heading.specs.Names.{texts};
 ghost use Rattle.heading.specs.Headings.{names_of};
 ghost use Rattle.heading_write.specs.Writes.{HeadingBytes, HeadingWritten};
 
-use forms::append_bytes;
+use forms::{Keyword, append_bytes};
 use heading::{Heading, KindWord, good_names};
 use std::alloc::Global;
 use words::{Fault, place_line};

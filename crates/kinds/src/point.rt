@@ -6,7 +6,8 @@ use crate::kind::Kind;
 use crate::step::fused;
 use records::Refusal;
 
-// A point: two coordinates.
+// A point: two coordinates. It and a length are no instances of one type over a count: a kind has 1 to 4 coordinates, and a const
+// parameter can be any number.
 #[derive(Clone, Copy)]
 pub struct Point {
     pub x: i64,

@@ -16,11 +16,6 @@ pub fn fused(u: i64, k: i64, v: i64) -> Result<i64, Refusal>
     if -FACTOR < k && k < FACTOR && -FACTOR < v && v < FACTOR && -BEGUN < u && u < BEGUN {
         return Ok(u + k * v);
     }
-    match k.checked_mul(v) {
-        None => Err(Refusal::DoesNotFit),
-        Some(p) => match u.checked_add(p) {
-            None => Err(Refusal::DoesNotFit),
-            Some(s) => Ok(s),
-        },
-    }
+    let product = k.checked_mul(v).ok_or(Refusal::DoesNotFit)?;
+    u.checked_add(product).ok_or(Refusal::DoesNotFit)
 }

@@ -9,28 +9,19 @@ use crate::kind::Kind;
 pub fn combine<K: Kind>(u: K, k: i64, v: K) -> K
     ensures { K.coords result ≡ (if all_fit (K.coords u) k (K.coords v) then plus_scaled (K.coords u) k (K.coords v) else K.coords u) }
 {
-    match u.plus_scaled(k, v) {
-        Ok(w) => w,
-        Err(_) => u,
-    }
+    u.plus_scaled(k, v).unwrap_or(u)
 }
 
 // Coordinate k, and 0 where there is none.
 pub fn read<K: Kind>(v: K, k: usize) -> i64
     ensures { result ≡ at (K.coords v) k }
 {
-    match v.coordinate(k) {
-        Ok(x) => x,
-        Err(_) => 0,
-    }
+    v.coordinate(k).unwrap_or(0)
 }
 
 // v with x at coordinate k, and v itself where it has no such coordinate.
 pub fn write<K: Kind>(v: K, k: usize, x: i64) -> K
     ensures { K.coords result ≡ slice_set (K.coords v) k x }
 {
-    match v.with_coordinate(k, x) {
-        Ok(changed) => changed,
-        Err(_) => v,
-    }
+    v.with_coordinate(k, x).unwrap_or(v)
 }

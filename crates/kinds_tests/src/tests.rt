@@ -6,24 +6,21 @@ const MAX: i64 = 9_223_372_036_854_775_807;
 
 const MIN: i64 = -9_223_372_036_854_775_808;
 
-// The number of the refusal, and 0 for a value.
-fn refusal_of<K: Kind>(r: Result<K, Refusal>) -> u8 {
-    match r {
-        Ok(_) => 0,
-        Err(e) => e.number(),
-    }
+// Whether there is a value, or the number of the refusal.
+fn answered<K: Kind>(r: Result<K, Refusal>) -> Result<(), u8> {
+    r.map(|_| ()).map_err(|e| e.number())
 }
 
 #[test]
 fn a_sum_reaches_the_edges(rt: HostRuntime) {
     let top = Length { x: MAX - 6 }.plus_scaled(2, Length { x: 3 });
-    assert_eq!(rt; refusal_of(top), 0);
+    assert_eq!(rt; answered(top), Ok(()));
     let over = Length { x: MAX - 5 }.plus_scaled(2, Length { x: 3 });
-    assert_eq!(rt; refusal_of(over), 18);
+    assert_eq!(rt; answered(over), Err(18));
     let bottom = Point { x: 0, y: MIN + 6 }.plus_scaled(-2, Point { x: 0, y: 3 });
-    assert_eq!(rt; refusal_of(bottom), 0);
+    assert_eq!(rt; answered(bottom), Ok(()));
     let under = Point { x: 0, y: MIN + 5 }.plus_scaled(-2, Point { x: 0, y: 3 });
-    assert_eq!(rt; refusal_of(under), 18);
+    assert_eq!(rt; answered(under), Err(18));
 }
 
 #[test]
@@ -36,7 +33,7 @@ fn a_product_is_refused_before_the_sum(rt: HostRuntime) {
             y: 0,
         },
     );
-    assert_eq!(rt; refusal_of(product), 18);
+    assert_eq!(rt; answered(product), Err(18));
     let least = combine(Length { x: 0 }, 1, Length { x: MIN });
     assert_eq!(rt; least.x, MIN);
     let kept = combine(Length { x: 5 }, -1, Length { x: MIN });
@@ -48,7 +45,7 @@ fn coordinates_are_counted_from_0(rt: HostRuntime) {
     let p = Point { x: 3, y: -4 };
     assert_eq!(rt; read(p, 1), -4);
     assert_eq!(rt; read(p, 2), 0);
-    assert_eq!(rt; refusal_of(p.with_coordinate(2, 1)), 17);
+    assert_eq!(rt; answered(p.with_coordinate(2, 1)), Err(17));
     assert_eq!(rt; write(p, 0, MIN).x, MIN);
     assert!(rt; value_above(p, 3));
     assert!(rt; !value_above(p, 4));
@@ -62,7 +59,7 @@ fn three_coordinates_serve_as_well(rt: HostRuntime) {
     assert_eq!(rt; s.y, 14);
     assert_eq!(rt; s.z, -21);
     assert_eq!(rt;
-        refusal_of(s.plus_scaled(1, Solid { x: 0, y: 0, z: MIN })),
-        18
+        answered(s.plus_scaled(1, Solid { x: 0, y: 0, z: MIN })),
+        Err(18)
     );
 }

@@ -8,54 +8,40 @@ ghost use Rattle.law.specs.Standing.{StandsOn, StandsOpened};
 
 // Every history that a series of calls makes, from an accepted opening on, is lawful: the sheet's values are the kept values and meet every bound
 // relation, a pull is refused as impossible exactly when no placing meets all, and an accepted pull proposes the one nearest to the wishes.
-pub fn law_for_runs_stands() -> u8
+pub fn law_for_runs_stands()
     ensures { LawForRuns }
-{
-    0
-}
+{}
 
 // The same call by call: what stands between a sheet in use and its history holds after an opening, and each call keeps it and is lawful.
-pub fn each_call_is_lawful() -> u8
+pub fn each_call_is_lawful()
     ensures opened { StandsOpened }
     ensures on { StandsOn }
-{
-    0
-}
+{}
 
 // The law is not empty: every series of calls makes a history, and a small one has an accepted pull and a keep.
-pub fn histories_are_made() -> u8
+pub fn histories_are_made()
     ensures series { SeriesMade }
     ensures small { SmallMade }
-{
-    0
-}
+{}
 
 // Where the lists are long enough no call is refused with 1.
-pub fn long_lists_fit_always() -> u8
+pub fn long_lists_fit_always()
     ensures { FitsAlways }
-{
-    0
-}
+{}
 
 // No pivot of a grip is negative, and a row without one is 0 in its first half, when it is met and at the end.
-pub fn pivots_of_grips_stand() -> u8
+pub fn pivots_of_grips_stand()
     ensures pivots { Pivots }
     ensures diagonal { Diagonal }
-{
-    0
-}
+{}
 
 // The workings of an accepted grip are the table after all steps, within the limit; the spare relations are those that earlier ones imply for the loose.
-pub fn accepted_grips_stand() -> u8
+pub fn accepted_grips_stand()
     ensures workings { AcceptedGrip }
     ensures spare { SpareExactly }
-{
-    0
-}
+{}
 
 // A pull with the workings of a grip on its sheet is refused as impossible exactly when no placing meets all, and accepted with the nearest one.
-pub fn pulls_of_grips_stand() -> u8
+pub fn pulls_of_grips_stand()
     ensures { PullsRightly }
-{
-    0
-}
+{}

@@ -1,13 +1,17 @@
--- What each call's reader needs: words that it took, and words that it refused.
-use Rattle.std.proofs.Common.{◌≡◌, ℕ, List, [], ◌∷◌, ◌++◌, length, ℤ, Some, None, sym, refl, ap, ◌∙◌, subst, append-nil, arith, length-append}
-use Rattle.std.proofs.lemmas.List.{nil_from_length}
-use Rattle.cells.specs.declared.cell.Cell.{Cell}
-use Rattle.cells.specs.declared.verb.Verb.TheVariants as v
+-- What the words behind a verb say, or cannot say.
+use Rattle.std.proofs.Common.{◌≡◌, ℕ, ◌+◌, List, [], ◌∷◌, ◌++◌, length, ℤ, Some, None, sym, refl, ap, ◌∙◌, subst, append-nil, append_assoc, arith, length-append}
+use Rattle.std.proofs.lemmas.List.{nil_from_length, length_push}
+use Rattle.words.specs.declared.fault.Fault.{Fault}
+use Rattle.words.specs.declared.fault.Fault.TheVariants as f
+use Rattle.words.specs.Faults.{Refuses}
 use Rattle.words.specs.Numbers.{Number}
+use Rattle.cells.specs.declared.cell.Cell.{Cell}
+use Rattle.cells.specs.declared.verb.Verb.{Verb}
+use Rattle.cells.specs.declared.verb.Verb.TheVariants as v
 use Rattle.cells.specs.Cells.{CellForm}
-use Rattle.forms.specs.Rows.{Each, OneRead, Row}
-use Rattle.lines.specs.Lines.{Said, binds, unbinds, grips, pulls, keeps, drops, verb_of, Values}
+use Rattle.forms.specs.Rows.{OneRead, Row}
 use Rattle.forms.proofs.Rows.{each-length}
+use Rattle.lines.specs.Lines.{Said, binds, unbinds, grips, pulls, keeps, drops, verb_of, Values}
 
 -- lists of one length that begin equal lists
 pub append-parts : {X : Type 0} (a b c d : List X) → length a ≡ length c → a ++ b ≡ c ++ d → (a ≡ c) × (b ≡ d)
@@ -21,109 +25,136 @@ append-parts (x ∷ a) b (y ∷ c) d l e =
     let more = append-parts a b c d k tails in
     ((λ i. heads i ∷ more.0 i), more.1)
 
-module _ {V : Type 0} (form : List ℕ → V → Type 0) (count : ℕ) (ws : List (List ℕ)) where
-  by-bind : ((cs : List ℤ) (q : V) → Values form count ws (binds cs q) → ⊥) → (s : Said V) → verb_of s ≡ v.Bind → Values form count ws s → ⊥
-  by-bind h (binds cs q) e x = h cs q x
-  by-bind h (unbinds n) e x = let z : ◌≡◌ {A = ℕ} 0 1 = cc in omega arith
-  by-bind h (grips n) e x = let z : ◌≡◌ {A = ℕ} 0 1 = cc in omega arith
-  by-bind h (pulls n) e x = let z : ◌≡◌ {A = ℕ} 0 1 = cc in omega arith
-  by-bind h keeps e x = let z : ◌≡◌ {A = ℕ} 0 1 = cc in omega arith
-  by-bind h drops e x = let z : ◌≡◌ {A = ℕ} 0 1 = cc in omega arith
+pub refused : (e : Fault) (Q : Type 0) → Q → Refuses e Q
+refused f.Form Q q = q
+refused f.Memory Q q = tt
 
-  by-unbind : ((n : ℤ) → Values form count ws (unbinds n) → ⊥) → (s : Said V) → verb_of s ≡ v.Unbind → Values form count ws s → ⊥
-  by-unbind h (binds cs q) e x = let z : ◌≡◌ {A = ℕ} 0 1 = cc in omega arith
-  by-unbind h (unbinds n) e x = h n x
-  by-unbind h (grips n) e x = let z : ◌≡◌ {A = ℕ} 0 1 = cc in omega arith
-  by-unbind h (pulls n) e x = let z : ◌≡◌ {A = ℕ} 0 1 = cc in omega arith
-  by-unbind h keeps e x = let z : ◌≡◌ {A = ℕ} 0 1 = cc in omega arith
-  by-unbind h drops e x = let z : ◌≡◌ {A = ℕ} 0 1 = cc in omega arith
+-- how many words a verb has behind it
+abbrev words_behind : ℕ → Verb → ℕ
+words_behind count v.Bind = count + 1
+words_behind count v.Unbind = 1
+words_behind count v.Grip = count
+words_behind count v.Pull = count
+words_behind count v.Keep = 0
+words_behind count v.Drop = 0
 
-  by-grip : ((cells : List Cell) → Values form count ws (grips cells) → ⊥) → (s : Said V) → verb_of s ≡ v.Grip → Values form count ws s → ⊥
-  by-grip h (binds cs q) e x = let z : ◌≡◌ {A = ℕ} 0 1 = cc in omega arith
-  by-grip h (unbinds n) e x = let z : ◌≡◌ {A = ℕ} 0 1 = cc in omega arith
-  by-grip h (grips n) e x = h n x
-  by-grip h (pulls n) e x = let z : ◌≡◌ {A = ℕ} 0 1 = cc in omega arith
-  by-grip h keeps e x = let z : ◌≡◌ {A = ℕ} 0 1 = cc in omega arith
-  by-grip h drops e x = let z : ◌≡◌ {A = ℕ} 0 1 = cc in omega arith
+-- what holds of all that a verb asks for, by the verb
+module _ {V : Type 0} (P : Said V → Type 0) where
+  pub as-bind : ((cs : List ℤ) (q : V) → P (binds cs q)) → (s : Said V) → verb_of s ≡ v.Bind → P s
+  as-bind h (binds cs q) e = h cs q
+  as-bind h (unbinds n) e = absurd (cc)
+  as-bind h (grips cells) e = absurd (cc)
+  as-bind h (pulls xs) e = absurd (cc)
+  as-bind h keeps e = absurd (cc)
+  as-bind h drops e = absurd (cc)
 
-  by-pull : ((vs : List V) → Values form count ws (pulls vs) → ⊥) → (s : Said V) → verb_of s ≡ v.Pull → Values form count ws s → ⊥
-  by-pull h (binds cs q) e x = let z : ◌≡◌ {A = ℕ} 0 1 = cc in omega arith
-  by-pull h (unbinds n) e x = let z : ◌≡◌ {A = ℕ} 0 1 = cc in omega arith
-  by-pull h (grips n) e x = let z : ◌≡◌ {A = ℕ} 0 1 = cc in omega arith
-  by-pull h (pulls n) e x = h n x
-  by-pull h keeps e x = let z : ◌≡◌ {A = ℕ} 0 1 = cc in omega arith
-  by-pull h drops e x = let z : ◌≡◌ {A = ℕ} 0 1 = cc in omega arith
+  pub as-unbind : ((n : ℤ) → P (unbinds n)) → (s : Said V) → verb_of s ≡ v.Unbind → P s
+  as-unbind h (binds cs q) e = absurd (cc)
+  as-unbind h (unbinds n) e = h n
+  as-unbind h (grips cells) e = absurd (cc)
+  as-unbind h (pulls xs) e = absurd (cc)
+  as-unbind h keeps e = absurd (cc)
+  as-unbind h drops e = absurd (cc)
 
-  pub keep_more : (ws ≡ [] → ⊥) → (s : Said V) → verb_of s ≡ v.Keep → Values form count ws s → ⊥
-  keep_more h (binds cs q) e x = let z : ◌≡◌ {A = ℕ} 0 1 = cc in omega arith
-  keep_more h (unbinds n) e x = let z : ◌≡◌ {A = ℕ} 0 1 = cc in omega arith
-  keep_more h (grips n) e x = let z : ◌≡◌ {A = ℕ} 0 1 = cc in omega arith
-  keep_more h (pulls n) e x = let z : ◌≡◌ {A = ℕ} 0 1 = cc in omega arith
-  keep_more h keeps e x = h x
-  keep_more h drops e x = let z : ◌≡◌ {A = ℕ} 0 1 = cc in omega arith
+  pub as-grip : ((cells : List Cell) → P (grips cells)) → (s : Said V) → verb_of s ≡ v.Grip → P s
+  as-grip h (binds cs q) e = absurd (cc)
+  as-grip h (unbinds n) e = absurd (cc)
+  as-grip h (grips cells) e = h cells
+  as-grip h (pulls xs) e = absurd (cc)
+  as-grip h keeps e = absurd (cc)
+  as-grip h drops e = absurd (cc)
 
-  pub drop_more : (ws ≡ [] → ⊥) → (s : Said V) → verb_of s ≡ v.Drop → Values form count ws s → ⊥
-  drop_more h (binds cs q) e x = let z : ◌≡◌ {A = ℕ} 0 1 = cc in omega arith
-  drop_more h (unbinds n) e x = let z : ◌≡◌ {A = ℕ} 0 1 = cc in omega arith
-  drop_more h (grips n) e x = let z : ◌≡◌ {A = ℕ} 0 1 = cc in omega arith
-  drop_more h (pulls n) e x = let z : ◌≡◌ {A = ℕ} 0 1 = cc in omega arith
-  drop_more h keeps e x = let z : ◌≡◌ {A = ℕ} 0 1 = cc in omega arith
-  drop_more h drops e x = h x
+  pub as-pull : ((xs : List V) → P (pulls xs)) → (s : Said V) → verb_of s ≡ v.Pull → P s
+  as-pull h (binds cs q) e = absurd (cc)
+  as-pull h (unbinds n) e = absurd (cc)
+  as-pull h (grips cells) e = absurd (cc)
+  as-pull h (pulls xs) e = h xs
+  as-pull h keeps e = absurd (cc)
+  as-pull h drops e = absurd (cc)
 
-  -- bind
-  pub bind-none : ((rest : List (List ℕ)) (xs : List ℤ) → Row Number count ws rest xs → ⊥) → (s : Said V) → verb_of s ≡ v.Bind → Values form count ws s → ⊥
-  bind-none h = by-bind (λ cs q x. h (x.1 ∷ []) cs (x.0, x.2, x.3, x.4))
+  pub as-keep : P keeps → (s : Said V) → verb_of s ≡ v.Keep → P s
+  as-keep h (binds cs q) e = absurd (cc)
+  as-keep h (unbinds n) e = absurd (cc)
+  as-keep h (grips cells) e = absurd (cc)
+  as-keep h (pulls xs) e = absurd (cc)
+  as-keep h keeps e = h
+  as-keep h drops e = absurd (cc)
 
-  split : (middle : List (List ℕ)) (cs : List ℤ) → Row Number count ws middle cs → (ds : List ℤ) (q : V) (x : Values form count ws (binds ds q)) → middle ≡ x.1 ∷ []
-  split middle cs m ds q x =
-      let a = each-length Number m.0 cs m.3 in
-      let b = each-length Number x.0 ds x.4 in
-      (append-parts m.0 middle x.0 (x.1 ∷ []) (omega (arith, m.2, x.3)) (sym m.1 ∙ x.2)).1
+  pub as-drop : P drops → (s : Said V) → verb_of s ≡ v.Drop → P s
+  as-drop h (binds cs q) e = absurd (cc)
+  as-drop h (unbinds n) e = absurd (cc)
+  as-drop h (grips cells) e = absurd (cc)
+  as-drop h (pulls xs) e = absurd (cc)
+  as-drop h keeps e = absurd (cc)
+  as-drop h drops e = h
 
-  pub bind_no_value : (middle after : List (List ℕ)) (cs : List ℤ) → Row Number count ws middle cs → OneRead form middle after None → (s : Said V) → verb_of s ≡ v.Bind → Values form count ws s → ⊥
-  bind_no_value middle after cs m o = by-bind (λ ds q x. o x.1 [] q (split middle cs m ds q x) x.5)
+module _ {V : Type 0} (form : List ℕ → V → Type 0) (count : ℕ) where
+  -- nothing that the verb asks for can be said by these words
+  abbrev pub Unsayable : Verb → List (List ℕ) → Type 0
+  Unsayable verb ws = (s : Said V) → verb_of s ≡ verb → Values form count ws s → ⊥
 
-  pub bind_more : (middle after : List (List ℕ)) (cs : List ℤ) (u : V) → Row Number count ws middle cs → OneRead form middle after (Some u) → (after ≡ [] → ⊥) → (s : Said V) → verb_of s ≡ v.Bind → Values form count ws s → ⊥
-  bind_more middle after cs u m o h = by-bind (λ ds q x. let p = split middle cs m ds q x in let r = o.1 in h (cc))
+  values_long : (ws : List (List ℕ)) (s : Said V) → Values form count ws s → length ws ≡ words_behind count (verb_of s)
+  values_long ws (binds cs q) x = omega (arith, ap length x.2, length_push x.0 x.1, each-length Number x.0 cs x.4, x.3)
+  values_long ws (unbinds n) x = ap length x.1
+  values_long ws (grips cells) x = each-length CellForm ws cells x.1 ∙ x.0
+  values_long ws (pulls xs) x = each-length form ws xs x.1 ∙ x.0
+  values_long ws keeps x = ap length x
+  values_long ws drops x = ap length x
 
-  pub bind_done : (middle after : List (List ℕ)) (cs : List ℤ) (u : V) → Row Number count ws middle cs → OneRead form middle after (Some u) → after ≡ [] → Values form count ws (binds cs u)
-  bind_done middle after cs u m o h =
-      (m.0, o.0, m.1 ∙ ap (λ l. m.0 ++ l) (o.1 ∙ ap (λ l. o.0 ∷ l) h), m.2, m.3, o.2)
+  -- what the verb asks for is said by words from the front, and the rest are left
+  pub record Begun (verb : Verb) (before after : List (List ℕ)) (s : Said V) : Type 0 where
+    pub asks : verb_of s ≡ verb
+    pub front : List (List ℕ)
+    pub whole : before ≡ front ++ after
+    pub values : Values form count front s
 
-  -- unbind
-  pub unbind-none : (after : List (List ℕ)) → OneRead Number ws after None → (s : Said V) → verb_of s ≡ v.Unbind → Values form count ws s → ⊥
-  unbind-none after o = by-unbind (λ n x. o x.0 [] n x.1 x.2)
+  -- with words left, they say nothing of the kind
+  pub more_left : (verb : Verb) (before after : List (List ℕ)) (s : Said V) → Begun verb before after s → (after ≡ [] → ⊥) → Unsayable verb before
+  more_left verb before after s h n t e x =
+      n (nil_from_length after (omega (arith, values_long h.front s h.values, values_long before t x, ap (words_behind count) (e ∙ sym h.asks), ap length h.whole, length-append h.front after)))
 
-  pub unbind_more : (after : List (List ℕ)) (n : ℤ) → OneRead Number ws after (Some n) → (after ≡ [] → ⊥) → (s : Said V) → verb_of s ≡ v.Unbind → Values form count ws s → ⊥
-  unbind_more after n o h = by-unbind (λ m x. let p = o.1 in let q = x.1 in h (cc))
+  pub begun_at : (u verb : Verb) (before rest after : List (List ℕ)) (t s : Said V) → Begun u before rest t → verb ≡ u → after ≡ rest → s ≡ t → Begun verb before after s
+  begun_at u verb before rest after t s h p q r = subst (λ x. Begun verb before after x) (sym r) (subst (λ x. Begun verb before x t) (sym q) (subst (λ x. Begun x before rest t) (sym p) h))
 
-  pub unbind-done : (after : List (List ℕ)) (n : ℤ) → OneRead Number ws after (Some n) → after ≡ [] → Values form count ws (unbinds n)
-  unbind-done after n o h = (o.0, o.1 ∙ ap (λ l. o.0 ∷ l) h, o.2)
+  module _ (before : List (List ℕ)) where
+    pub begun-bind : (middle after : List (List ℕ)) (cs : List ℤ) (u : V) → Row Number count before middle cs → OneRead form middle after (Some u) → Begun v.Bind before after (binds cs u)
+    begun-bind middle after cs u m o = record {
+      asks = refl;
+      front = m.0 ++ o.0 ∷ [];
+      whole = m.1 ∙ ap (λ l. m.0 ++ l) o.1 ∙ sym (append_assoc m.0 (o.0 ∷ []) after);
+      values = (m.0, o.0, refl, m.2, m.3, o.2);
+    }
 
-  -- a row of values and nothing behind it
-  row_left : {U : Type 0} (F : List ℕ → U → Type 0) (after : List (List ℕ)) (xs ys : List U) → Row F count ws after xs → length ys ≡ count → Each F ws ys → after ≡ []
-  row_left F after xs ys m l e =
-      nil_from_length after (omega (arith, each-length F m.0 xs m.3, m.2, each-length F ws ys e, ap length m.1, length-append m.0 after))
+    pub begun-unbind : (after : List (List ℕ)) (n : ℤ) → OneRead Number before after (Some n) → Begun v.Unbind before after (unbinds n)
+    begun-unbind after n o = record { asks = refl; front = o.0 ∷ []; whole = o.1; values = (o.0, refl, o.2) }
 
-  row_done : {U : Type 0} (F : List ℕ → U → Type 0) (after : List (List ℕ)) (xs : List U) → Row F count ws after xs → after ≡ [] → (length xs ≡ count) × Each F ws xs
-  row_done F after xs m h =
-      let e : ws ≡ m.0 = m.1 ∙ ap (λ l. m.0 ++ l) h ∙ append-nil m.0 in
-      (m.2, subst (λ l. Each F l xs) (sym e) m.3)
+    pub begun-grip : (after : List (List ℕ)) (cells : List Cell) → Row CellForm count before after cells → Begun v.Grip before after (grips cells)
+    begun-grip after cells m = record { asks = refl; front = m.0; whole = m.1; values = (m.2, m.3) }
 
-  pub grip-none : ((rest : List (List ℕ)) (xs : List Cell) → Row CellForm count ws rest xs → ⊥) → (s : Said V) → verb_of s ≡ v.Grip → Values form count ws s → ⊥
-  grip-none h = by-grip (λ cells x. h [] cells (ws, sym (append-nil ws), x.0, x.1))
+    pub begun-pull : (after : List (List ℕ)) (xs : List V) → Row form count before after xs → Begun v.Pull before after (pulls xs)
+    begun-pull after xs m = record { asks = refl; front = m.0; whole = m.1; values = (m.2, m.3) }
 
-  pub grip_more : (after : List (List ℕ)) (cells : List Cell) → Row CellForm count ws after cells → (after ≡ [] → ⊥) → (s : Said V) → verb_of s ≡ v.Grip → Values form count ws s → ⊥
-  grip_more after cells m h = by-grip (λ ys x. h (row_left CellForm after cells ys m x.0 x.1))
+    pub begun-keep : Begun v.Keep before before keeps
+    begun-keep = record { asks = refl; front = []; whole = refl; values = refl }
 
-  pub grip-done : (after : List (List ℕ)) (cells : List Cell) → Row CellForm count ws after cells → after ≡ [] → Values form count ws (grips cells)
-  grip-done after cells m h = row_done CellForm after cells m h
+    pub begun-drop : Begun v.Drop before before drops
+    begun-drop = record { asks = refl; front = []; whole = refl; values = refl }
 
-  pub pull-none : ((rest : List (List ℕ)) (xs : List V) → Row form count ws rest xs → ⊥) → (s : Said V) → verb_of s ≡ v.Pull → Values form count ws s → ⊥
-  pull-none h = by-pull (λ xs x. h [] xs (ws, sym (append-nil ws), x.0, x.1))
+  module _ (ws : List (List ℕ)) where
+    abbrev no_values : Said V → Type 0
+    no_values s = Values form count ws s → ⊥
 
-  pub pull_more : (after : List (List ℕ)) (xs : List V) → Row form count ws after xs → (after ≡ [] → ⊥) → (s : Said V) → verb_of s ≡ v.Pull → Values form count ws s → ⊥
-  pull_more after xs m h = by-pull (λ ys x. h (row_left form after xs ys m x.0 x.1))
+    pub bind-none : ((rest : List (List ℕ)) (xs : List ℤ) → Row Number count ws rest xs → ⊥) → Unsayable v.Bind ws
+    bind-none h = as-bind no_values (λ cs q x. h (x.1 ∷ []) cs (x.0, x.2, x.3, x.4))
 
-  pub pull-done : (after : List (List ℕ)) (xs : List V) → Row form count ws after xs → after ≡ [] → Values form count ws (pulls xs)
-  pull-done after xs m h = row_done form after xs m h
+    pub bind_no_value : (middle after : List (List ℕ)) (cs : List ℤ) → Row Number count ws middle cs → OneRead form middle after None → Unsayable v.Bind ws
+    bind_no_value middle after cs m o = as-bind no_values (λ ds q x.
+        let a = each-length Number m.0 cs m.3 in
+        let b = each-length Number x.0 ds x.4 in
+        o x.1 [] q (append-parts m.0 middle x.0 (x.1 ∷ []) (omega (arith, m.2, x.3)) (sym m.1 ∙ x.2)).1 x.5)
+
+    pub grip-none : ((rest : List (List ℕ)) (xs : List Cell) → Row CellForm count ws rest xs → ⊥) → Unsayable v.Grip ws
+    grip-none h = as-grip no_values (λ cells x. h [] cells (ws, sym (append-nil ws), x.0, x.1))
+
+    pub pull-none : ((rest : List (List ℕ)) (xs : List V) → Row form count ws rest xs → ⊥) → Unsayable v.Pull ws
+    pull-none h = as-pull no_values (λ xs x. h [] xs (ws, sym (append-nil ws), x.0, x.1))

@@ -4,8 +4,8 @@ use Rattle.words.specs.declared.fault.Fault.{Fault}
 use Rattle.cells.specs.declared.cell.Cell.{Cell}
 use Rattle.cells.specs.declared.verb.Verb.{Verb}
 use Rattle.cells.specs.declared.verb.Verb.TheVariants as v
-use Rattle.lines.specs.declared.line.Line.{Line}
-use Rattle.lines.specs.declared.line.Line.TheVariants as l
+use Rattle.calls.specs.declared.call.Call.{Call}
+use Rattle.calls.specs.declared.call.Call.TheVariants as l
 use Rattle.words.specs.Numbers.{Number}
 use Rattle.words.specs.Words.{joined_by}
 use Rattle.cells.specs.Cells.{CellForm}
@@ -23,7 +23,7 @@ pub data Said (V : Type 0) : Type 0 where
   drops : Said V
 
 -- what the code's line says
-abbrev pub said : {V : Type 0} → Line V → Said V
+abbrev pub said : {V : Type 0} → Call V Cell → Said V
 said (l.Bind cs q) = binds (vec_items cs) q
 said (l.Unbind n) = unbinds n
 said (l.Grip cells) = grips (vec_items cells)
@@ -56,11 +56,11 @@ pub record Spelled {V : Type 0} (form : List ℕ → V → Type 0) (count : ℕ)
   pub short : length bs ≤ 1024
 
 -- what was read behind a verb is all that the words can say
-abbrev pub ReadBy : {V : Type 0} → (List ℕ → V → Type 0) → ℕ → Verb → List (List ℕ) → Result (Line V) Fault → Type 0
+abbrev pub ReadBy : {V : Type 0} → (List ℕ → V → Type 0) → ℕ → Verb → List (List ℕ) → Result (Call V Cell) Fault → Type 0
 ReadBy form count verb ws (Ok x) = (verb_of (said x) ≡ verb) × Values form count ws (said x)
 ReadBy form count verb ws (Err e) = Refuses e ((s : Said _) → verb_of s ≡ verb → Values form count ws s → ⊥)
 
 -- a line is read exactly when its bytes spell one
-abbrev pub LineRead : {V : Type 0} → (List ℕ → V → Type 0) → ℕ → List ℕ → Result (Line V) Fault → Type 0
+abbrev pub LineRead : {V : Type 0} → (List ℕ → V → Type 0) → ℕ → List ℕ → Result (Call V Cell) Fault → Type 0
 LineRead form count bs (Ok x) = Spelled form count bs (said x)
 LineRead form count bs (Err e) = Refuses e ((s : Said _) → Spelled form count bs s → ⊥)

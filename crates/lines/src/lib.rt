@@ -2,5 +2,6 @@
 #![tactic(auto)]
 
 mod line;
+mod rest;
 
 pub use line::{Line, read_line};

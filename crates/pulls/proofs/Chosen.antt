@@ -37,9 +37,4 @@ module _ (n : ℕ) (rs : List Relation) (qs : List Coords) (rows : List ℕ) whe
         ∙ ap₂ (λ (x y : ℤ). d *ℤ at (get_or qs (get_or rows i 0) []) c -ℤ d *ℤ x -ℤ y)
         (sum_ext n (λ s b. ap (λ (z : ℤ). if_moving (role roles s) (z *ℤ coord wishes s c)) (picked_coef i s l b)))
         (sum_ext n (λ s b. ap (λ (z : ℤ). if_held (role roles s) (z *ℤ coord values s c)) (picked_coef i s l b))))
-
     -- what was found for row i
-    pub residual_found : (i : ℕ) → i < length rows → (us q : Coords) (z : ℤ) → z ≡ d → q ≡ get_or qs (get_or rows i 0) []
-        → us ≡ tab size (residual_at n roles z values wishes (relation_at rs (get_or rows i 0)).coefficients q) → us ≡ get_or (residuals size n roles (chosen n rs qs rows) d values wishes) i []
-    residual_found i l us q z e p is =
-        is ∙ ap₂ (λ (x : ℤ) (y : Coords). tab size (residual_at n roles x values wishes (relation_at rs (get_or rows i 0)).coefficients y)) e p ∙ sym (residual_row i l)

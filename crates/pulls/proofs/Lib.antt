@@ -9,12 +9,11 @@ pub mod Lowering
 pub mod Multiplying
 pub mod Refusing
 pub mod Numbers
-pub mod Joining
 pub mod Settled
 pub mod Within
 pub mod Finishing
 pub mod Solving
-pub mod Counted
 pub mod Proposing
+pub mod Counted
 pub mod Calling
 pub mod Numbered

@@ -34,10 +34,6 @@ module _ (size p : ℕ) (us : Coords) where
   result : Bool → Result (ℕ × Coords) Refusal
   result b = guard b Impossible (Ok (p / divisor_from p us, quotients size us (pos (divisor_from p us))))
 
-  pub lower-none : p ≡ 0 → any size (λ c. above 0 (at us c)) ≡ true → Err Impossible ≡ lower size p us
-  unfolding result
-  lower-none e h = sym (ap₂ (λ (a b : Bool). result (a && b)) (ap (λ (q : ℕ). eqb q 0) e) (sym same_test ∙ h))
-
   pub lower-spare : length us ≡ size → p ≡ 0 → any size (λ c. above 0 (at us c)) ≡ false → Ok (0, us) ≡ lower size p us
   unfolding result
   lower-spare sized e h =

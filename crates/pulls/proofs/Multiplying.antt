@@ -1,9 +1,9 @@
 -- The common multiple taken up one number at a time, and a row's multiplier.
-use Rattle.std.proofs.Common.{◌≡◌, ℕ, zero, suc, ◌+◌, ◌/◌, ◌<◌, ◌≤◌, Bool, true, false, cond, ◌&&◌, ◌||◌, ltb, leb, List, length, get_or, replicate, ℤ, pos, ◌*ℤ◌, nat_abs, Some, None, Ok, Err, Option, Result, sym, refl, ap, ◌∙◌, subst, ap₂, true≢false, le_trans, add-one, arith}
+use Rattle.std.proofs.Common.{◌≡◌, ℕ, zero, suc, ◌+◌, ◌/◌, ◌<◌, ◌≤◌, Bool, true, false, cond, ◌&&◌, ◌||◌, ltb, List, length, get_or, replicate, ℤ, pos, ◌*ℤ◌, nat_abs, Ok, Err, Result, sym, refl, ap, ◌∙◌, subst, ap₂, le_trans, add-one, arith}
 use native.Mathlib.Nat.{le_of_dvd}
 use native.Mathlib.Decide.{dec_lt}
 use lib.IntN.{+ℤ_idl}
-use Rattle.std.proofs.lemmas.Bool.{lt-ltb, le-ltb, ltb-true, leb-true, leb-false}
+use Rattle.std.proofs.lemmas.Bool.{lt-ltb, ltb-true}
 use Rattle.records.specs.Outcomes.{guard}
 use Rattle.records.specs.declared.refusal.Refusal.{Refusal}
 use Rattle.records.specs.declared.refusal.Refusal.TheVariants.{TooFine}
@@ -50,48 +50,13 @@ multiple_up k (suc n) ps h = by (dec_lt n k) (λ b. multiple_up k n ps b)
 pub multiple_more : (k : ℕ) (ps : List ℕ) → multiple (k + 1) ps ≡ taken_up (multiple k ps) (get_or ps k 0)
 multiple_more k ps = ap (λ (j : ℕ). multiple j ps) (add-one k)
 
-out : Option ℕ → ℕ
-out (Some x) = x
-out None = 0
-
-is_some : Option ℕ → Bool
-is_some (Some x) = true
-is_some None = false
-
-pub up_some : (x limit q : ℕ) → Some q ≡ cond (leb x limit) (Some x) None → (q ≡ x) × (x ≤ limit)
-unfolding out is_some
-up_some x limit q h = by (leb x limit) refl h
-  where
-    by : (b : Bool) → leb x limit ≡ b → Some q ≡ cond b (Some x) None → (q ≡ x) × (x ≤ limit)
-    by true e p = (ap out p, leb-true x limit e)
-    by false e p = absurd (true≢false (ap is_some p))
-
-pub up_none : (x limit : ℕ) → None ≡ cond (leb x limit) (Some x) None → limit < x
-unfolding out is_some
-up_none x limit h = by (leb x limit) refl h
-  where
-    by : (b : Bool) → leb x limit ≡ b → None ≡ cond b (Some x) None → limit < x
-    by true e p = absurd (true≢false (sym (ap is_some p)))
-    by false e p = leb-false x limit e
-
 pub beyond-multiple : (l : ℕ) → 2147483647 < l → Err TooFine ≡ guard (ltb 2147483647 l) TooFine (Ok l)
 beyond-multiple l h = sym (ap (λ (b : Bool). guard b TooFine (Ok l)) (lt-ltb 2147483647 l h))
-
-pub within-multiple : (l : ℕ) → l ≤ 2147483647 → Ok l ≡ guard (ltb 2147483647 l) TooFine (Ok l)
-within-multiple l h = sym (ap (λ (b : Bool). guard b TooFine (Ok l)) (le-ltb 2147483647 l h))
 
 -- ---- a row's multiplier
 module _ (size l p : ℕ) (us : Coords) (few : l ≤ 2147483647) where
   result : Bool → Bool → Bool → Result Coords Refusal
   result a b c = guard (a && (b || c)) TooFine (Ok (cond a (times size l p us) us))
-
-  pub spare-stays : p ≡ 0 → Ok us ≡ guard (strays size l p us) TooFine (Ok (multiplied size l p us))
-  unfolding result
-  spare-stays e = sym (ap (λ (a : Bool). result a (any size (λ c. above 2147483647 (at us c))) (any size (λ c. above 1000000000000 (pos (l / p) *ℤ at us c)))) (ap (ltb 0) e))
-
-  pub sum-strays : 0 < p → any size (λ c. above 2147483647 (at us c)) ≡ true → Err TooFine ≡ guard (strays size l p us) TooFine (Ok (multiplied size l p us))
-  unfolding result
-  sum-strays h e = sym (ap₂ (λ (a b : Bool). result a b (any size (λ c. above 1000000000000 (pos (l / p) *ℤ at us c)))) (lt-ltb 0 p h) e)
 
   module _ (none ws : List ℤ) (k : ℤ) (h : 0 < p) (small : any size (λ c. above 2147483647 (at us c)) ≡ false) (zeros : none ≡ replicate size (pos 0)) (sized : length ws ≡ size) (factor : k ≡ pos (l / p)) (is : ws ≡ plus none k us) where
     pub product : ws ≡ times size l p us

@@ -1,21 +1,11 @@
 -- Lists written from their first place on.
-use Rattle.std.proofs.Common.{◌≡◌, ℕ, zero, suc, ◌+◌, ◌-◌, ◌<◌, ◌≤◌, List, [], ◌∷◌, ◌++◌, length, get_or, take, drop, set, replicate, ℤ, pos, sym, refl, ap, ◌∙◌, ap₂, append-nil, zero-add, arith}
+use Rattle.std.proofs.Common.{◌≡◌, ℕ, ◌+◌, ◌-◌, ◌<◌, ◌≤◌, List, length, get_or, take, drop, set, ℤ, pos, sym, ap, ◌∙◌, ap₂, zero-add, arith}
 use lib.Seq.{paste}
-use Rattle.std.proofs.lemmas.List.{take_all, get_or-append_right, get_or-drop, length-take-le}
+use Rattle.std.proofs.lemmas.List.{get_or-append_right, get_or-drop, length-take-le}
 use Rattle.std.proofs.lemmas.List.Edits.{paste_more}
 use Rattle.whole.specs.Lists.{tab, at}
 use Rattle.whole.proofs.Lists.{tab_ext, tab_of}
 use Rattle.rules.specs.Values.{written}
-
-drop_all : {X : Type 0} (n : ℕ) (xs : List X) → length xs ≤ n → drop n xs ≡ []
-drop_all zero [] h = refl
-drop_all (suc n) [] h = refl
-drop_all zero (x ∷ xs) h = absurd (omega arith)
-drop_all (suc n) (x ∷ xs) h = drop_all n xs (omega arith)
-
--- all places are written
-pub written_all : {X : Type 0} (n : ℕ) (new old : List X) → length new ≤ n → length old ≤ n → written n new old ≡ new
-written_all n new old h k = ap₂ (λ (a b : List _). a ++ b) (take_all n new h) (drop_all (0 + n) old (omega arith)) ∙ append-nil new
 
 -- a place that is not written yet
 pub written_past : {X : Type 0} (n : ℕ) (new old : List X) (d : X) (i : ℕ) → n ≤ length new → n ≤ i → get_or (written n new old) i d ≡ get_or old i d
@@ -34,11 +24,3 @@ written_set new old xs s v d long room e p =
 -- the coordinates that a value has
 pub tabbed : (size : ℕ) (us : List ℤ) (f : ℕ → ℤ) → length us ≡ size → ((c : ℕ) → c < size → at us c ≡ f c) → us ≡ tab size f
 tabbed size us f e h = sym (tab_of us (pos 0)) ∙ ap (λ (n : ℕ). tab n (λ c. at us c)) e ∙ tab_ext size (λ c. at us c) f h
-
-pub replicate-tab : (size : ℕ) (z : ℤ) → replicate size z ≡ tab size (λ c. z)
-replicate-tab zero z = refl
-replicate-tab (suc size) z = ap (λ (xs : List ℤ). z ∷ xs) (replicate-tab size z)
-
--- a part from the start
-pub front_long : {X : Type 0} (m : ℕ) (xs : List X) → m ≤ length xs → length (take (m - 0) xs) ≡ m
-front_long m xs h = let e : m - 0 ≡ m = omega arith in ap (λ (k : ℕ). length (take k xs)) e ∙ length-take-le m xs h

@@ -33,7 +33,7 @@ pub zero_length : (size : ℕ) (us : List ℤ) → us ≡ replicate size (pos 0)
 zero_length size us e = ap length e ∙ length-replicate size (pos 0)
 
 -- before the first term
-pub no_terms : (roles : List Role) (d : ℤ) (values wishes : List Coords) (cs : List ℤ) (c : ℕ) (x : ℤ) → x ≡ less_terms 0 roles d values wishes cs c x
+no_terms : (roles : List Role) (d : ℤ) (values wishes : List Coords) (cs : List ℤ) (c : ℕ) (x : ℤ) → x ≡ less_terms 0 roles d values wishes cs c x
 unfolding sum
 no_terms roles d values wishes cs c x = ring (x ∷ d ∷ []) (v 0) (v 0 ⊖ v 1 ⊗ k (pos 0) ⊖ k (pos 0)) tt
 
@@ -63,30 +63,29 @@ module _ (size n : ℕ) (roles : List Role) (d : ℤ) (values wishes : List Coor
   within c s l h = residual-within size n roles only d values wishes few fit near coefs constants 0 c s s l h h
 
   -- d × q
-  pub begun : (us ws : List ℤ) → us ≡ replicate size (pos 0) → ws ≡ plus us d q → (c : ℕ) → c < size → at ws c ≡ d *ℤ at q c
+  pub begun : (us ws : List ℤ) → us ≡ replicate size (pos 0) → ws ≡ plus us d q → (c : ℕ) → c < size → at ws c ≡ residual_at 0 roles d values wishes cs q c
   unfolding only
   begun us ws none is c l =
-      added size us d q ws 110000000000000 (λ c. pos 0) (λ c. d *ℤ at q c) (omega arith) (zero_length size us none) is (λ c b. zero_at size us none c) (λ c b. +ℤ_idl (d *ℤ at q c)) first first c l
+      added size us d q ws 110000000000000 (λ c. pos 0) (λ c. d *ℤ at q c) (omega arith) (zero_length size us none) is (λ c b. zero_at size us none c) (λ c b. +ℤ_idl (d *ℤ at q c)) first first c l ∙ no_terms roles d values wishes cs c (d *ℤ at q c)
     where
       first : (c : ℕ) → c < size → nat_abs (d *ℤ at q c) ≤ 110000000000000
       first c b = let a = product-≤ d (at q c) 45000 47560000 (fit_values size n d values fit).high (constants 0 c b) in omega arith
 
-  pub less_one : (s : ℕ) → s < n → (us ws w y : List ℤ) → length us ≡ size → w ≡ get_or wishes s [] → y ≡ get_or values s [] → ws ≡ plus us (factor (role roles s) d (at cs s)) (taken (role roles s) w y)
+  pub less_one : (s : ℕ) → s < n → (us ws : List ℤ) → length us ≡ size → ws ≡ plus us (factor (role roles s) d (at cs s)) (taken (role roles s) (get_or wishes s []) (get_or values s []))
       → ((c : ℕ) → c < size → at us c ≡ residual_at s roles d values wishes cs q c) → (c : ℕ) → c < size → at ws c ≡ residual_at (s + 1) roles d values wishes cs q c
-  less_one s b us ws w y sized ew ey is before =
-      added size us (factor (role roles s) d (at cs s)) (taken (role roles s) w y) ws 220000000000000 (λ c. residual_at s roles d values wishes cs q c) (λ c. residual_at (s + 1) roles d values wishes cs q c)
+  less_one s b us ws sized is before =
+      added size us (factor (role roles s) d (at cs s)) (taken (role roles s) (get_or wishes s []) (get_or values s [])) ws 220000000000000 (λ c. residual_at s roles d values wishes cs q c) (λ c. residual_at (s + 1) roles d values wishes cs q c)
       (omega arith) sized is before step (λ c l. term c l (step c l)) (λ c l. let h = within c (s + 1) l (omega arith) in omega arith)
     where
-      step : (c : ℕ) → c < size → residual_at s roles d values wishes cs q c +ℤ factor (role roles s) d (at cs s) *ℤ at (taken (role roles s) w y) c ≡ residual_at (s + 1) roles d values wishes cs q c
+      step : (c : ℕ) → c < size → residual_at s roles d values wishes cs q c +ℤ factor (role roles s) d (at cs s) *ℤ at (taken (role roles s) (get_or wishes s []) (get_or values s [])) c ≡ residual_at (s + 1) roles d values wishes cs q c
       step c l =
           let M : ℕ → ℤ = λ s. if_moving (role roles s) (at cs s *ℤ coord wishes s c) in
           let H : ℕ → ℤ = λ s. if_held (role roles s) (at cs s *ℤ coord values s c) in
-          one (role roles s) d (d *ℤ at q c) (sum s M) (sum s H) (at cs s) w y c
-          ∙ ap₂ (λ (a e : Coords). d *ℤ at q c -ℤ d *ℤ (sum s M +ℤ if_moving (role roles s) (at cs s *ℤ at a c)) -ℤ (sum s H +ℤ if_held (role roles s) (at cs s *ℤ at e c))) ew ey
+          one (role roles s) d (d *ℤ at q c) (sum s M) (sum s H) (at cs s) (get_or wishes s []) (get_or values s []) c
           ∙ ap₂ (λ (a e : ℤ). d *ℤ at q c -ℤ d *ℤ a -ℤ e) (sym (sum_more s M)) (sym (sum_more s H))
 
-      term : (c : ℕ) → c < size → residual_at s roles d values wishes cs q c +ℤ factor (role roles s) d (at cs s) *ℤ at (taken (role roles s) w y) c ≡ residual_at (s + 1) roles d values wishes cs q c
-          → nat_abs (factor (role roles s) d (at cs s) *ℤ at (taken (role roles s) w y) c) ≤ 220000000000000
+      term : (c : ℕ) → c < size → residual_at s roles d values wishes cs q c +ℤ factor (role roles s) d (at cs s) *ℤ at (taken (role roles s) (get_or wishes s []) (get_or values s [])) c ≡ residual_at (s + 1) roles d values wishes cs q c
+          → nat_abs (factor (role roles s) d (at cs s) *ℤ at (taken (role roles s) (get_or wishes s []) (get_or values s [])) c) ≤ 220000000000000
       term c l e = apart (residual_at s roles d values wishes cs q c) _ (residual_at (s + 1) roles d values wishes cs q c) e (within c s l (omega arith)) (within c (s + 1) l (omega arith))
         where
           apart : (a b e : ℤ) → a +ℤ b ≡ e → nat_abs a ≤ 110000000000000 → nat_abs e ≤ 110000000000000 → nat_abs b ≤ 220000000000000

@@ -1,9 +1,9 @@
--- A placing in lowest terms, and its refusals.
+-- A placing in lowest terms, and its last refusal.
 use Rattle.std.proofs.Common.{◌≡◌, ℕ, zero, suc, ◌*◌, ◌/◌, ◌<◌, ◌≤◌, Bool, true, false, ◌||◌, List, length, pos, Ok, Err, Result, sym, ap, ◌∙◌, subst, ap₂, arith}
 use native.Mathlib.Nat.{mul-div_cancel'}
 use Prim.Native.Nat.{◌∣◌}
 use lib.Signed.{quot_z}
-use Rattle.std.proofs.lemmas.Bool.{lt-ltb, le-ltb}
+use Rattle.std.proofs.lemmas.Bool.{le-ltb}
 use Rattle.records.specs.Outcomes.{guard}
 use Rattle.records.specs.declared.refusal.Refusal.{Refusal}
 use Rattle.records.specs.declared.refusal.Refusal.TheVariants.{TooFine, OffSheet}
@@ -31,10 +31,6 @@ module _ (size n e h : ℕ) (us : List Coords) (some : 0 < e) (is : h ≡ diviso
       by : (q : ℕ) → h * q ≡ e → 1 ≤ q
       by zero p = absurd (omega arith)
       by (suc q) p = omega arith
-
-  pub too_fine : 45000 < e / h → Err TooFine ≡ settled size n (lowest size n (pos e) us)
-  unfolding outcome
-  too_fine l = sym (same ∙ ap (λ (b : Bool). guard b TooFine (guard (bad_values size n (pos (e / h)) (grid n size (λ s c. quot_z (coord us s c) (pos h)))) OffSheet (Ok (record { over = pos (e / h); nums = grid n size (λ s c. quot_z (coord us s c) (pos h)) })))) (lt-ltb 45000 (e / h) l))
 
   module _ (vs : List Coords) (few : e / h ≤ 45000) (new : vs ≡ grid n size (λ s c. quot_z (coord us s c) (pos h))) (long : n ≤ length vs) where
     tested : unfit_values size n (pos (e / h)) vs ≡ bad_values size n (pos (e / h)) vs

@@ -9,5 +9,6 @@ mod pull;
 mod residuals;
 mod rows;
 mod settling;
+mod task;
 
 pub use pull::propose;

@@ -1,6 +1,5 @@
 // A pull's steps in their order.
-ghost use Rattle.std.specs.Prelude.{◌≡◌, ℕ, ◌≤◌, false, not, ◌||◌, map, length, ◌==◌, nat_lt, unsigned_abs};
-ghost use Rattle.whole.specs.Lists.{at};
+ghost use Rattle.std.specs.Prelude.{◌≡◌, ◌≤◌, false, not, ◌||◌, map, length, ◌==◌, nat_lt};
 ghost use Rattle.rules.specs.Calls.{pulling};
 ghost use Rattle.rules.specs.Sheets.{unfit, unfit_values};
 ghost use Rattle.rules.specs.Pulling.{proposed};
@@ -9,102 +8,38 @@ ghost use Rattle.workings.specs.Shown.{shown};
 ghost use Rattle.pulls.specs.Rows.{chosen, Fine};
 ghost use Rattle.pulls.specs.Steps.{placed, exactly};
 
-use crate::finish::finish;
-use crate::lists::clear;
 use crate::residuals::far_wish;
-use crate::rows::{write_carried, write_residuals};
+use crate::rows::write_carried;
+use crate::task::Task;
 use kinds::Kind;
-use records::{Refusal, Relation, Role};
+use records::{Refusal, Relation};
 use roles::counted_relations;
-use sheets::{Sheet, unfit};
+use sheets::{Sheet, clear, unfit};
 use workings::Workings;
 
 const WORKING_PLACES: usize = 24;
 
 const MOST_ROWS: usize = 12;
 
-// A pull whose lists and workings fit: the denominator of the proposal, whose numerators are then in its list.
-fn solve<K: Kind>(
-    d: i64,
-    values: &[K],
-    relations: &[Relation],
-    constants: &[K],
-    rows: &[usize],
-    roles: &[Role],
-    shares: &[i64],
-    workings: &Workings,
-    wishes: &[K],
-    lowered: &mut [u64],
-    found: &mut [K],
-    sums: &mut [K],
-    proposal: &mut [K],
-) -> Result<i64, Refusal>
-    requires parameters { length roles.now ≤ 48 }
-    requires wished { length roles.now ≤ length wishes.now }
-    requires room { length roles.now ≤ length values.now }
-    requires shared { length shares.now ≡ length roles.now }
-    requires proposed { length proposal.old ≡ length roles.now }
-    requires share { (s : ℕ) → unsigned_abs (at shares.now s) ≤ 12 }
-    requires values { unfit_values K.size (length roles.now) d (map K.coords values.now) ≡ false }
-    requires fine { Fine K.size (length roles.now) relations.now (map K.coords constants.now) rows.now }
-    requires few { length rows.now ≤ 12 }
-    requires rows { length rows.now ≡ (shown workings.now).m }
-    requires lowered { length lowered.old ≡ length rows.now }
-    requires found { length found.old ≡ length rows.now }
-    requires sums { length sums.old ≡ length rows.now }
-    ensures { placed result (map K.coords proposal.new) ≡ proposed K.size (length roles.now) roles.now shares.now (chosen (length roles.now) relations.now (map K.coords constants.now) rows.now) (shown workings.now).table d (map K.coords values.now) (map K.coords wishes.now) }
-{
-    if far_wish(roles, wishes) {
-        return Err(Refusal::WishTooFar);
+impl<K: Kind> Task<'_, K> {
+    // The denominator of the proposal, whose numerators are then in its list. The working values hold the residuals in their
+    // first 12 places, and what the rows carry in the next 12.
+    fn solve(&self, proposal: &mut [K], working: &mut [K]) -> Result<i64, Refusal>
+        requires proposed { length proposal.old ≡ (shown self.now.workings.now).count }
+        requires working { length working.old ≡ 24 }
+        ensures { let t = self.now in let w = shown t.workings.now in placed result (map K.coords proposal.new) ≡ proposed K.size w.count w.roles w.shares (chosen w.count t.relations.now (map K.coords t.constants.now) t.rows.now) w.table t.d (map K.coords t.values.now) (map K.coords t.wishes.now) }
+    {
+        let m = self.workings.m();
+        let (left, right) = working.split_at_mut(MOST_ROWS);
+        let found = &mut left[..m];
+        let sums = &mut right[..m];
+        // the caller lends places for values alone, so the rows' numbers have a list of their own
+        let mut places = [0; MOST_ROWS];
+        let numbers = &mut places[..m];
+        self.write_residuals(found)?;
+        write_carried(self.workings, found, numbers, sums)?;
+        self.finish(numbers, sums, proposal)
     }
-    write_residuals(d, values, relations, constants, rows, roles, wishes, found)?;
-    write_carried(workings, found, lowered, sums)?;
-    finish(
-        d, values, relations, rows, roles, shares, wishes, lowered, sums, proposal,
-    )
-}
-
-// The same over the lists that the workings are for: the working values hold the residuals in their first 12 places, and what
-// the rows carry in the next 12.
-fn solve_in<K: Kind>(
-    d: i64,
-    values: &[K],
-    relations: &[Relation],
-    constants: &[K],
-    rows: &[usize],
-    workings: &Workings,
-    wishes: &[K],
-    proposal: &mut [K],
-    working: &mut [K],
-) -> Result<i64, Refusal>
-    requires parameters { (shown workings.now).count ≤ 48 }
-    requires wished { (shown workings.now).count ≤ length wishes.now }
-    requires room { (shown workings.now).count ≤ length values.now }
-    requires proposed { length proposal.old ≡ (shown workings.now).count }
-    requires values { unfit_values K.size (shown workings.now).count d (map K.coords values.now) ≡ false }
-    requires fine { Fine K.size (shown workings.now).count relations.now (map K.coords constants.now) rows.now }
-    requires rows { length rows.now ≡ (shown workings.now).m }
-    requires working { length working.old ≡ 24 }
-    ensures { placed result (map K.coords proposal.new) ≡ proposed K.size (shown workings.now).count (shown workings.now).roles (shown workings.now).shares (chosen (shown workings.now).count relations.now (map K.coords constants.now) rows.now) (shown workings.now).table d (map K.coords values.now) (map K.coords wishes.now) }
-{
-    let m = workings.m();
-    let mut lowered = [0; MOST_ROWS];
-    let (left, right) = working.split_at_mut(MOST_ROWS);
-    solve(
-        d,
-        values,
-        relations,
-        constants,
-        rows,
-        workings.roles(),
-        workings.shares(),
-        workings,
-        wishes,
-        &mut lowered[0..m],
-        &mut left[0..m],
-        &mut right[0..m],
-        proposal,
-    )
 }
 
 // A pull over lists of exactly the places that it writes.
@@ -119,27 +54,33 @@ fn pull<K: Kind>(
     proposal: &mut [K],
     working: &mut [K],
 ) -> Result<i64, Refusal>
-    requires parameters { (shown workings.now).count ≤ 48 }
     requires wished { (shown workings.now).count ≤ length wishes.now }
-    requires room { (shown workings.now).count ≤ length values.now }
-    requires proposed { length proposal.old ≡ (shown workings.now).count }
-    requires values { unfit_values K.size (shown workings.now).count d (map K.coords values.now) ≡ false }
+    requires fit { unfit_values K.size (shown workings.now).count d (map K.coords values.now) ≡ false }
     requires fine { Fine K.size (shown workings.now).count relations.now (map K.coords constants.now) rows.now }
     requires rows { length rows.now ≡ (shown workings.now).m }
+    requires proposed { length proposal.old ≡ (shown workings.now).count }
     requires working { length working.old ≡ 24 }
-    ensures { (result, map K.coords proposal.new, map K.coords working.new) ≡ exactly K.size (shown workings.now).count (proposed K.size (shown workings.now).count (shown workings.now).roles (shown workings.now).shares (chosen (shown workings.now).count relations.now (map K.coords constants.now) rows.now) (shown workings.now).table d (map K.coords values.now) (map K.coords wishes.now)) }
+    ensures { let w = shown workings.now in (result, map K.coords proposal.new, map K.coords working.new) ≡ exactly K.size w.count (proposed K.size w.count w.roles w.shares (chosen w.count relations.now (map K.coords constants.now) rows.now) w.table d (map K.coords values.now) (map K.coords wishes.now)) }
 {
-    let answer = solve_in(
-        d, values, relations, constants, rows, workings, wishes, proposal, working,
-    );
+    let answer = if far_wish(workings.roles(), wishes) {
+        Err(Refusal::WishTooFar)
+    } else {
+        let task = Task {
+            d,
+            values,
+            relations,
+            constants,
+            rows,
+            workings,
+            wishes,
+        };
+        task.solve(proposal, working)
+    };
     clear(working);
-    match answer {
-        Ok(over) => Ok(over),
-        Err(refusal) => {
-            clear(proposal);
-            Err(refusal)
-        }
+    if answer.is_err() {
+        clear(proposal);
     }
+    answer
 }
 
 // Whether a list is short, a number breaks a limit, or the workings are for another count of parameters.
@@ -153,7 +94,7 @@ fn unfit_lists<K: Kind>(
     proposal: &[K],
     working: &[K],
 ) -> bool
-    ensures { result ≡ (nat_lt (length wishes.now) (numbers sheet.now).count || nat_lt (length proposal.now) (numbers sheet.now).count || nat_lt (length working.now) 24 || unfit K.size (numbers sheet.now) (map K.coords values.now) relations.now (map K.coords constants.now) || not ((shown workings.now).count == (numbers sheet.now).count)) }
+    ensures { let s = numbers sheet.now in result ≡ (nat_lt (length wishes.now) s.count || nat_lt (length proposal.now) s.count || nat_lt (length working.now) 24 || unfit K.size s (map K.coords values.now) relations.now (map K.coords constants.now) || not ((shown workings.now).count == s.count)) }
 {
     let n = sheet.count();
     wishes.len() < n
@@ -164,6 +105,7 @@ fn unfit_lists<K: Kind>(
 }
 
 // The denominator of the proposal, or the refusal; the proposal, and zeros in the working values, are then in their lists.
+// The caller lends each list by itself, so they come one by one here and in the two steps before.
 pub fn propose<K: Kind>(
     sheet: &Sheet,
     values: &[K],
@@ -183,7 +125,7 @@ pub fn propose<K: Kind>(
     }
     let n = workings.count();
     let m = workings.m();
-    let counted = counted_relations(&relations[0..sheet.bound()], workings.roles());
+    let counted = counted_relations(&relations[..sheet.bound()], workings.roles());
     if counted.m != m {
         return Err(Refusal::Unfit);
     }
@@ -192,10 +134,10 @@ pub fn propose<K: Kind>(
         values,
         relations,
         constants,
-        &counted.rows[0..m],
+        &counted.rows[..m],
         workings,
         wishes,
-        &mut proposal[0..n],
-        &mut working[0..WORKING_PLACES],
+        &mut proposal[..n],
+        &mut working[..WORKING_PLACES],
     )
 }

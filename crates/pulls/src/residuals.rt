@@ -1,17 +1,19 @@
 // How far the wishes are from meeting each relation that counts, and what a row of the table makes of it.
-ghost use Rattle.std.specs.Prelude.{◌≡◌, ℕ, ◌<◌, ◌≤◌, false, not, ◌&&◌, [], map, length, unsigned_abs};
+ghost use Rattle.std.specs.Prelude.{◌≡◌, ℕ, ◌<◌, ◌≤◌, false, not, ◌&&◌, [], map, length, slice_index, slice_index_or, unsigned_abs};
 ghost use Rattle.whole.specs.Lists.{at, tab};
 ghost use Rattle.whole.specs.Tests.{any, above};
 ghost use Rattle.linear.specs.Elimination.{table_limit};
 ghost use Rattle.rules.specs.Limits.{most_residual};
-ghost use Rattle.rules.specs.Sheets.{bad_coefs, bad_constant, unfit_values};
+ghost use Rattle.rules.specs.Sheets.{relation_at};
 ghost use Rattle.rules.specs.Gripping.{is_held};
 ghost use Rattle.rules.specs.Pulling.{far_wish, some_above};
+ghost use Rattle.workings.specs.Shown.{shown};
 ghost use Rattle.pulls.specs.Steps.{plus, factor, taken, residual_at, carried_at};
 
 use crate::lists::add;
+use crate::task::Task;
 use kinds::{Kind, value_above};
-use records::{Relation, Role};
+use records::Role;
 
 const MOST_STEPS: u64 = 47_560;
 
@@ -19,11 +21,7 @@ const MOST_STEPS: u64 = 47_560;
 fn far<K: Kind>(role: Role, wish: K) -> bool
     ensures { result ≡ (not (is_held role) && any K.size (λ c. above 47560 (at (K.coords wish) c))) }
 {
-    match role {
-        Role::Held => false,
-        Role::Pulled => value_above(wish, MOST_STEPS),
-        Role::Loose(_) => value_above(wish, MOST_STEPS),
-    }
+    !matches!(role, Role::Held) && value_above(wish, MOST_STEPS)
 }
 
 // Whether a wish that is read has a coordinate off the sheet.
@@ -31,56 +29,45 @@ pub(crate) fn far_wish<K: Kind>(roles: &[Role], wishes: &[K]) -> bool
     requires { length roles.now ≤ length wishes.now }
     ensures { result ≡ far_wish K.size (length roles.now) roles.now (map K.coords wishes.now) }
 {
-    for s in 0..roles.len() {
-        if far(roles[s], wishes[s]) {
-            return true;
-        }
-    }
-    false
+    roles
+        .iter()
+        .zip(wishes)
+        .any(|(role, wish)| far(*role, *wish))
 }
 
 // A residual less one parameter's term: d × coefficient × wish, or coefficient × kept numerator where it is held.
 fn less_term<K: Kind>(sum: K, d: i64, coefficient: i64, role: Role, wish: K, value: K) -> K
-    requires { (unsigned_abs d ≤ 45000) × (unsigned_abs coefficient ≤ 1000) }
+    requires over { unsigned_abs d ≤ 45000 }
+    requires small { unsigned_abs coefficient ≤ 1000 }
     ensures { K.coords result ≡ plus (K.coords sum) (factor role d coefficient) (taken role (K.coords wish) (K.coords value)) }
 {
     match role {
         Role::Held => add(sum, -coefficient, value),
-        Role::Pulled => add(sum, -(d * coefficient), wish),
-        Role::Loose(_) => add(sum, -(d * coefficient), wish),
+        Role::Pulled | Role::Loose(_) => add(sum, -(d * coefficient), wish),
     }
 }
 
-// The residual of one relation: d × q, less the terms of all parameters.
-pub(crate) fn residual<K: Kind>(
-    d: i64,
-    q: K,
-    relation: &Relation,
-    roles: &[Role],
-    wishes: &[K],
-    values: &[K],
-) -> K
-    requires few { length roles.now ≤ 48 }
-    requires wished { length roles.now ≤ length wishes.now }
-    requires room { length roles.now ≤ length values.now }
-    requires near { far_wish K.size (length roles.now) roles.now (map K.coords wishes.now) ≡ false }
-    requires values { unfit_values K.size (length roles.now) d (map K.coords values.now) ≡ false }
-    requires small { bad_coefs (length roles.now) relation.now.coefficients ≡ false }
-    requires constant { bad_constant K.size (K.coords q) ≡ false }
-    ensures { K.coords result ≡ tab K.size (residual_at (length roles.now) roles.now d (map K.coords values.now) (map K.coords wishes.now) relation.now.coefficients (K.coords q)) }
-{
-    let mut sum = add(K::zero(), d, q);
-    for s in 0..roles.len() {
-        sum = less_term(
-            sum,
-            d,
-            relation.coefficients[s],
-            roles[s],
-            wishes[s],
-            values[s],
-        );
+impl<K: Kind> Task<'_, K> {
+    // The residual of the relation in row i: d × q, less the terms of all parameters.
+    pub(crate) fn residual(&self, i: usize) -> K
+        requires { i < length self.now.rows.now }
+        ensures { let t = self.now in let w = shown t.workings.now in let j = slice_index t.rows.now i in K.coords result ≡ tab K.size (residual_at w.count w.roles t.d (map K.coords t.values.now) (map K.coords t.wishes.now) (relation_at t.relations.now j).coefficients (slice_index_or (map K.coords t.constants.now) j [])) }
+    {
+        let relation = &self.relations[self.rows[i]];
+        let mut sum = add(K::zero(), self.d, self.constants[self.rows[i]]);
+        // four lists side by side: a number is plainer than pairs within pairs
+        for (s, role) in self.workings.roles().iter().enumerate() {
+            sum = less_term(
+                sum,
+                self.d,
+                relation.coefficients[s],
+                *role,
+                self.wishes[s],
+                self.values[s],
+            );
+        }
+        sum
     }
-    sum
 }
 
 // The sum over j of row[j] × residuals[j].
@@ -92,8 +79,8 @@ pub(crate) fn carried<K: Kind>(row: &[i64], residuals: &[K]) -> K
     ensures { K.coords result ≡ tab K.size (carried_at (length row.now) row.now (map K.coords residuals.now)) }
 {
     let mut sum = K::zero();
-    for j in 0..row.len() {
-        sum = add(sum, row[j], residuals[j]);
+    for (number, residual) in row.iter().zip(residuals) {
+        sum = add(sum, *number, *residual);
     }
     sum
 }

@@ -4,50 +4,36 @@ ghost use Rattle.records.specs.declared.refusal.Refusal.TheVariants.{GapTooLarge
 ghost use Rattle.records.specs.Outcomes.{guard, image};
 ghost use Rattle.linear.specs.Elimination.{table_limit};
 ghost use Rattle.rules.specs.Limits.{most_residual};
-ghost use Rattle.rules.specs.Sheets.{unfit_values};
-ghost use Rattle.rules.specs.Pulling.{far_wish, some_above, residuals, carried, contradicts, divisors, lowered, lowered_sums};
+ghost use Rattle.rules.specs.Pulling.{some_above, residuals, carried, contradicts, divisors, lowered, lowered_sums};
 ghost use Rattle.workings.specs.Shown.{shown};
 ghost use Rattle.pulls.specs.Steps.{lower};
-ghost use Rattle.pulls.specs.Rows.{chosen, Fine};
+ghost use Rattle.pulls.specs.Rows.{chosen};
 
 use crate::lists::{divided, divisor_with};
-use crate::residuals::{carried, residual};
+use crate::residuals::carried;
+use crate::task::Task;
 use kinds::{Kind, value_above};
-use records::{Refusal, Relation, Role};
+use records::Refusal;
 use workings::Workings;
 
 const MOST_RESIDUAL: u64 = 300_000_000;
 
-// Writes the residuals of the relations that count, whose numbers are in `rows`.
-pub(crate) fn write_residuals<K: Kind>(
-    d: i64,
-    values: &[K],
-    relations: &[Relation],
-    constants: &[K],
-    rows: &[usize],
-    roles: &[Role],
-    wishes: &[K],
-    found: &mut [K],
-) -> Result<(), Refusal>
-    requires few { length roles.now ≤ 48 }
-    requires wished { length roles.now ≤ length wishes.now }
-    requires room { length roles.now ≤ length values.now }
-    requires near { far_wish K.size (length roles.now) roles.now (map K.coords wishes.now) ≡ false }
-    requires values { unfit_values K.size (length roles.now) d (map K.coords values.now) ≡ false }
-    requires fine { Fine K.size (length roles.now) relations.now (map K.coords constants.now) rows.now }
-    requires many { length found.old ≡ length rows.now }
-    ensures answer { result ≡ guard (some_above most_residual K.size (length rows.now) (residuals K.size (length roles.now) roles.now (chosen (length roles.now) relations.now (map K.coords constants.now) rows.now) d (map K.coords values.now) (map K.coords wishes.now))) GapTooLarge (Ok tt) }
-    ensures list { OnOk result (map K.coords found.new ≡ residuals K.size (length roles.now) roles.now (chosen (length roles.now) relations.now (map K.coords constants.now) rows.now) d (map K.coords values.now) (map K.coords wishes.now)) }
-{
-    for i in 0..rows.len() {
-        let j = rows[i];
-        let c = residual(d, constants[j], &relations[j], roles, wishes, values);
-        if value_above(c, MOST_RESIDUAL) {
-            return Err(Refusal::GapTooLarge);
+impl<K: Kind> Task<'_, K> {
+    // Writes the residuals of the relations that count.
+    pub(crate) fn write_residuals(&self, found: &mut [K]) -> Result<(), Refusal>
+        requires { length found.old ≡ length self.now.rows.now }
+        ensures answer { let t = self.now in let w = shown t.workings.now in result ≡ guard (some_above most_residual K.size (length t.rows.now) (residuals K.size w.count w.roles (chosen w.count t.relations.now (map K.coords t.constants.now) t.rows.now) t.d (map K.coords t.values.now) (map K.coords t.wishes.now))) GapTooLarge (Ok tt) }
+        ensures list { let t = self.now in let w = shown t.workings.now in OnOk result (map K.coords found.new ≡ residuals K.size w.count w.roles (chosen w.count t.relations.now (map K.coords t.constants.now) t.rows.now) t.d (map K.coords t.values.now) (map K.coords t.wishes.now)) }
+    {
+        for (i, place) in found.iter_mut().enumerate() {
+            let c = self.residual(i);
+            if value_above(c, MOST_RESIDUAL) {
+                return Err(Refusal::GapTooLarge);
+            }
+            *place = c;
         }
-        found[i] = c;
+        Ok(())
     }
-    Ok(())
 }
 
 // A row's diagonal number p and what the row carries, both divided by their greatest common divisor; a spare row that carries
@@ -77,10 +63,11 @@ pub(crate) fn write_carried<K: Kind>(
     requires numbers { length diagonal.old ≡ (shown workings.now).m }
     requires sums { length sums.old ≡ (shown workings.now).m }
     requires small { some_above most_residual K.size (shown workings.now).m (map K.coords found.now) ≡ false }
-    ensures answer { result ≡ guard (contradicts K.size (shown workings.now).m (shown workings.now).table (carried K.size (shown workings.now).m (shown workings.now).table (map K.coords found.now))) Impossible (Ok tt) }
-    ensures numbers { OnOk result (diagonal.new ≡ lowered (shown workings.now).m (shown workings.now).table (divisors (shown workings.now).m (shown workings.now).table (carried K.size (shown workings.now).m (shown workings.now).table (map K.coords found.now)))) }
-    ensures sums { OnOk result (map K.coords sums.new ≡ lowered_sums K.size (shown workings.now).m (carried K.size (shown workings.now).m (shown workings.now).table (map K.coords found.now)) (divisors (shown workings.now).m (shown workings.now).table (carried K.size (shown workings.now).m (shown workings.now).table (map K.coords found.now)))) }
+    ensures answer { let w = shown workings.now in let gs = carried K.size w.m w.table (map K.coords found.now) in result ≡ guard (contradicts K.size w.m w.table gs) Impossible (Ok tt) }
+    ensures numbers { let w = shown workings.now in let gs = carried K.size w.m w.table (map K.coords found.now) in OnOk result (diagonal.new ≡ lowered w.m w.table (divisors w.m w.table gs)) }
+    ensures sums { let w = shown workings.now in let gs = carried K.size w.m w.table (map K.coords found.now) in OnOk result (map K.coords sums.new ≡ lowered_sums K.size w.m gs (divisors w.m w.table gs)) }
 {
+    // the workings tell their rows by number alone
     for i in 0..workings.m() {
         let p = workings.diagonal(i);
         let g = carried(workings.right_half(i), found);

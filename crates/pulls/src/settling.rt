@@ -16,11 +16,7 @@ const MOST_DENOMINATOR: u64 = 45_000;
 fn divisor_over<K: Kind>(e: u64, proposal: &[K]) -> u64
     ensures { result ≡ divisor_from e (joined (map K.coords proposal.now)) }
 {
-    let mut g = e;
-    for s in 0..proposal.len() {
-        g = divisor_with(g, proposal[s]);
-    }
-    g
+    proposal.iter().fold(e, |g, v| divisor_with(g, *v))
 }
 
 // Divides the numerators by g.
@@ -28,14 +24,15 @@ fn divide_all<K: Kind>(g: i64, proposal: &mut [K])
     requires { pos 1 ≤ℤ g }
     ensures { map K.coords proposal.new ≡ grid (length proposal.old) K.size (λ s c. int_div (coord (map K.coords proposal.old) s c) g) }
 {
-    for s in 0..proposal.len() {
-        proposal[s] = divided(proposal[s], g);
+    for v in proposal.iter_mut() {
+        *v = divided(*v, g);
     }
 }
 
 // The proposal in lowest terms, from its numerators over e.
 pub(crate) fn settle<K: Kind>(e: u64, proposal: &mut [K]) -> Result<i64, Refusal>
-    requires { (0 < e) × (e ≤ 100000000000000) }
+    requires some { 0 < e }
+    requires most { e ≤ 100000000000000 }
     ensures { placed result (map K.coords proposal.new) ≡ settled K.size (length proposal.old) (lowest K.size (length proposal.old) (pos e) (map K.coords proposal.old)) }
 {
     let h = divisor_over(e, proposal);

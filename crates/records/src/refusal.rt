@@ -1,47 +1,47 @@
 ghost use Rattle.std.specs.Prelude.{◌≡◌};
 ghost use Rattle.records.specs.Numbers.{number_of};
 
-// Why a call, or a line of a card, is refused.
-#[derive(Clone, Copy)]
+// Why a call, or a line of a card, is refused. Each case stands with the number that a card prints for it.
+#[derive(Clone, Copy, Debug, PartialEq, Eq)]
 pub enum Refusal {
     // a list is too short, or a number that was handed in breaks a limit
-    Unfit,
+    Unfit = 1,
     // a sheet has 1 to 48 parameters
-    Count,
+    Count = 2,
     // 24 relations are bound
-    Full,
+    Full = 3,
     // all coefficients are 0, or one is out of range
-    Coefficients,
+    Coefficients = 4,
     // the constant is out of range
-    Constant,
+    Constant = 5,
     // the relation does not hold for the present values
-    Untrue,
+    Untrue = 6,
     // no relation has that number
-    NoRelation,
+    NoRelation = 7,
     // nothing is pulled, a weight is not permitted, or too many are loose
-    Roles,
+    Roles = 8,
     // more than 12 relations count
-    Crowded,
+    Crowded = 9,
     // a number of the table is beyond the limit
-    TableTooLarge,
+    TableTooLarge = 10,
     // a wish is off the sheet
-    WishTooFar,
+    WishTooFar = 11,
     // a residual is beyond its limit
-    GapTooLarge,
+    GapTooLarge = 12,
     // no placing meets the relations, the held values and the pulled wishes
-    Impossible,
+    Impossible = 13,
     // the numbers of the proposal are beyond a limit
-    TooFine,
+    TooFine = 14,
     // a proposed coordinate is off the sheet
-    OffSheet,
+    OffSheet = 15,
     // a line of a card is not of the form
-    Form,
+    Form = 16,
     // a value has no such coordinate
-    NoCoordinate,
+    NoCoordinate = 17,
     // a product or a sum does not fit 64 signed bits
-    DoesNotFit,
+    DoesNotFit = 18,
     // the call is not open in the present state
-    NotOpen,
+    NotOpen = 19,
 }
 
 impl Refusal {
@@ -49,26 +49,6 @@ impl Refusal {
     pub fn number(self) -> u8
         ensures { result ≡ number_of self }
     {
-        match self {
-            Refusal::Unfit => 1,
-            Refusal::Count => 2,
-            Refusal::Full => 3,
-            Refusal::Coefficients => 4,
-            Refusal::Constant => 5,
-            Refusal::Untrue => 6,
-            Refusal::NoRelation => 7,
-            Refusal::Roles => 8,
-            Refusal::Crowded => 9,
-            Refusal::TableTooLarge => 10,
-            Refusal::WishTooFar => 11,
-            Refusal::GapTooLarge => 12,
-            Refusal::Impossible => 13,
-            Refusal::TooFine => 14,
-            Refusal::OffSheet => 15,
-            Refusal::Form => 16,
-            Refusal::NoCoordinate => 17,
-            Refusal::DoesNotFit => 18,
-            Refusal::NotOpen => 19,
-        }
+        self as u8
     }
 }

@@ -14,85 +14,53 @@ const MOST_LOOSE: usize = 24;
 fn is_held(role: Role) -> bool
     ensures { result ≡ is_held role }
 {
-    match role {
-        Role::Held => true,
-        Role::Pulled => false,
-        Role::Loose(_) => false,
-    }
+    matches!(role, Role::Held)
 }
 
 fn is_pulled(role: Role) -> bool
     ensures { result ≡ is_pulled role }
 {
-    match role {
-        Role::Held => false,
-        Role::Pulled => true,
-        Role::Loose(_) => false,
-    }
+    matches!(role, Role::Pulled)
 }
 
 fn is_loose(role: Role) -> bool
     ensures { result ≡ is_loose role }
 {
-    match role {
-        Role::Held => false,
-        Role::Pulled => false,
-        Role::Loose(_) => true,
-    }
+    matches!(role, Role::Loose(_))
 }
 
 fn is_weight(w: i64) -> bool
     ensures { result ≡ is_weight w }
 {
-    w == 1 || w == 2 || w == 3 || w == 4 || w == 6 || w == 12
+    matches!(w, 1 | 2 | 3 | 4 | 6 | 12)
 }
 
 // Whether a loose parameter's weight is none of the six.
 fn bad_weight(role: Role) -> bool
     ensures { result ≡ bad_weight role }
 {
-    match role {
-        Role::Held => false,
-        Role::Pulled => false,
-        Role::Loose(w) => !is_weight(w),
-    }
+    matches!(role, Role::Loose(w) if !is_weight(w))
 }
 
 // Whether no parameter is pulled.
 fn none_pulled(roles: &[Role]) -> bool
     ensures { result ≡ not (any (length roles.now) (λ s. is_pulled (role roles.now s))) }
 {
-    for role in roles {
-        if is_pulled(*role) {
-            return false;
-        }
-    }
-    true
+    !roles.iter().any(|role| is_pulled(*role))
 }
 
 // Whether some weight is none of the six.
 fn some_bad_weight(roles: &[Role]) -> bool
     ensures { result ≡ any (length roles.now) (λ s. bad_weight (role roles.now s)) }
 {
-    for role in roles {
-        if bad_weight(*role) {
-            return true;
-        }
-    }
-    false
+    roles.iter().any(|role| bad_weight(*role))
 }
 
 // How many parameters are loose.
 fn loose_count(roles: &[Role]) -> usize
     ensures { result ≡ tally (length roles.now) (λ s. is_loose (role roles.now s)) }
 {
-    let mut n = 0;
-    for role in roles {
-        if is_loose(*role) {
-            n += 1;
-        }
-    }
-    n
+    roles.iter().filter(|role| is_loose(**role)).count()
 }
 
 // Whether nothing is pulled, a weight is none of the six, or more than 24 are loose.
@@ -113,16 +81,13 @@ fn moves(coefficient: i64, role: Role) -> bool
 pub fn relation_counts(coefficients: &[i64], roles: &[Role]) -> bool
     ensures { result ≡ counts (length roles.now) roles.now coefficients.now }
 {
-    let n = roles.len().min(coefficients.len());
-    for s in 0..n {
-        if moves(coefficients[s], roles[s]) {
-            return true;
-        }
-    }
-    false
+    roles
+        .iter()
+        .zip(coefficients)
+        .any(|(role, c)| moves(*c, *role))
 }
 
-// The relations that count: their numbers in bound order, the first 12 of them, and how many there are.
+// The relations that count: their numbers in bound order, the first 12 of them, and how many there are, also past the twelve.
 #[derive(Clone, Copy)]
 pub struct Counted {
     pub rows: [usize; 12],
@@ -136,8 +101,8 @@ pub fn counted_relations(relations: &[Relation], roles: &[Role]) -> Counted
 {
     let mut rows = [0; 12];
     let mut m = 0;
-    for i in 0..relations.len() {
-        if relation_counts(&relations[i].coefficients, roles) {
+    for (i, relation) in relations.iter().enumerate() {
+        if relation_counts(&relation.coefficients, roles) {
             if m < 12 {
                 rows[m] = i;
             }

@@ -6,78 +6,58 @@ ghost use Rattle.rules.specs.Mistakes.{Denominator, Limit, Rounded};
 ghost use Rattle.rules.specs.Worked.{PlacesBeyond, RefusedFirst, WorkedSheets};
 
 // The worked sheets give what they should.
-pub fn worked_sheets_stand() -> u8
+pub fn worked_sheets_stand()
     ensures { WorkedSheets }
-{
-    0
-}
+{}
 
 // Only the places needed are written; short lists and numbers beyond a limit are refused first, with nothing written.
-pub fn worked_lists_stand() -> u8
+pub fn worked_lists_stand()
     ensures beyond { PlacesBeyond }
     ensures first { RefusedFirst }
-{
-    0
-}
+{}
 
 // Three quiet mistakes are mistakes: another limit, a rounded proposal, a denominator left off.
-pub fn mistakes_stand() -> u8
+pub fn mistakes_stand()
     ensures limit { Limit }
     ensures rounded { Rounded }
     ensures denominator { Denominator }
-{
-    0
-}
+{}
 
 // Where the lists fit, coefficients and constants of the relations that count are within their limits.
-pub fn fitting_stands() -> u8
+pub fn fitting_stands()
     ensures { Fitting }
-{
-    0
-}
+{}
 
 // The shares and the weighted Gram matrix of a grip stay within their bounds.
-pub fn gram_bounds_stand() -> u8
+pub fn gram_bounds_stand()
     ensures shares { SharesWithin }
     ensures gram { GramWithin }
-{
-    0
-}
+{}
 
 // The test whether a relation holds now, and the residuals, stay within 1.1 × 10^14.
-pub fn residual_bounds_stand() -> u8
+pub fn residual_bounds_stand()
     ensures holding { HoldingWithin }
     ensures residual { ResidualWithin }
-{
-    0
-}
+{}
 
 // The carried sums stay within 7.8 × 10^18.
-pub fn carried_bound_stands() -> u8
+pub fn carried_bound_stands()
     ensures { CarriedWithin }
-{
-    0
-}
+{}
 
 // The common multiple and the multipliers stay within L × L.
-pub fn multiplier_bounds_stand() -> u8
+pub fn multiplier_bounds_stand()
     ensures multiple { MultipleWithin }
     ensures multiplier { MultiplierWithin }
-{
-    0
-}
+{}
 
 // The numerators and their denominator stay within 5 × 10^18.
-pub fn numerator_bounds_stand() -> u8
+pub fn numerator_bounds_stand()
     ensures denominator { DenominatorWithin }
     ensures numerator { NumeratorWithin }
-{
-    0
-}
+{}
 
 // Each of these bounds is below 2^63.
-pub fn room_for_all_stands() -> u8
+pub fn room_for_all_stands()
     ensures { RoomForAll }
-{
-    0
-}
+{}

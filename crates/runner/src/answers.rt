@@ -1,28 +1,22 @@
 // What a card prints for the answers to its lines.
-use calls::Answer;
+use calls::{Answer, Given};
+use forms::append_bytes;
 use kinds::{Kind, read};
 use records::Refusal;
 use words::{Fault, append_number};
 
-pub(crate) fn put_bytes(out: &mut Vec<u8>, bytes: &[u8]) -> Result<(), Fault> {
-    match out.extend_from_slice(bytes) {
-        Ok(()) => Ok(()),
-        Err(_) => Err(Fault::Memory),
-    }
-}
-
 // `no` and the number of a refusal.
 pub(crate) fn put_refusal(out: &mut Vec<u8>, refusal: Refusal) -> Result<(), Fault> {
-    put_bytes(out, b"no ")?;
-    append_number(refusal.number() as i64, out)?;
-    put_bytes(out, b"\n")
+    append_bytes(b"no ", out)?;
+    append_number(i64::from(refusal.number()), out)?;
+    append_bytes(b"\n", out)
 }
 
-// A value's coordinates, joined by commas.
+// A value's coordinates, joined by commas. A kind tells its coordinates by number alone.
 fn put_value<K: Kind>(out: &mut Vec<u8>, v: K) -> Result<(), Fault> {
     for k in 0..K::count() {
         if k > 0 {
-            put_bytes(out, b",")?;
+            append_bytes(b",", out)?;
         }
         append_number(read(v, k), out)?;
     }
@@ -32,7 +26,7 @@ fn put_value<K: Kind>(out: &mut Vec<u8>, v: K) -> Result<(), Fault> {
 // The numbers of the spare relations, each after a space.
 fn put_spares(out: &mut Vec<u8>, numbers: &[usize]) -> Result<(), Fault> {
     for number in numbers {
-        put_bytes(out, b" ")?;
+        append_bytes(b" ", out)?;
         let n = *number;
         if n < 24 {
             append_number(n as i64, out)?;
@@ -47,29 +41,32 @@ fn put_placing<K: Kind>(
     denominator: i64,
     numerators: &[K],
 ) -> Result<(), Fault> {
-    put_bytes(out, b" ")?;
+    append_bytes(b" ", out)?;
     append_number(denominator, out)?;
     for v in numerators {
-        put_bytes(out, b" ")?;
+        append_bytes(b" ", out)?;
         put_value(out, *v)?;
     }
     Ok(())
 }
 
+// `ok` and what an accepted call gave back.
+fn put_given<K: Kind>(out: &mut Vec<u8>, given: &Given<K>) -> Result<(), Fault> {
+    append_bytes(b"ok", out)?;
+    match given {
+        Given::Nothing => {}
+        Given::Spares(numbers) => put_spares(out, numbers.as_slice())?,
+        Given::Placing(denominator, numerators) => {
+            put_placing(out, *denominator, numerators.as_slice())?
+        }
+    }
+    append_bytes(b"\n", out)
+}
+
 // The line for one answer.
 pub(crate) fn put_answer<K: Kind>(out: &mut Vec<u8>, answer: &Answer<K>) -> Result<(), Fault> {
     match answer {
-        Answer::Refused(refusal) => put_refusal(out, *refusal),
-        Answer::Done => put_bytes(out, b"ok\n"),
-        Answer::Spares(numbers) => {
-            put_bytes(out, b"ok")?;
-            put_spares(out, numbers.as_slice())?;
-            put_bytes(out, b"\n")
-        }
-        Answer::Placing(denominator, numerators) => {
-            put_bytes(out, b"ok")?;
-            put_placing(out, *denominator, numerators.as_slice())?;
-            put_bytes(out, b"\n")
-        }
+        Ok(given) => put_given(out, given),
+        Err(refusal) => put_refusal(out, *refusal),
     }
 }

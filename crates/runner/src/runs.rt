@@ -1,46 +1,44 @@
 // Running a card.
-use crate::answers::{put_answer, put_bytes, put_refusal};
+use crate::answers::{put_answer, put_refusal};
 use crate::asking::call_of;
 use calls::Call;
-use forms::Written;
+use forms::{Written, append_bytes};
 use heading::{KindWord, read_heading};
 use kinds::{Kind, Length, Point};
 use lines::read_line;
-use records::Refusal;
+use records::{Refusal, Role};
 use series::run;
 use std::alloc::Global;
 use words::{Fault, Lines};
 
 const MOST_BYTES: usize = 65_536;
 
-// The calls of the card's other lines, and for each line whether it made one.
-fn read_lines<V: Written + Drop>(
+// The calls that a card's lines make, and for each line whether it made one.
+#[derive(Drop)]
+struct Script<V> {
+    calls: Vec<Call<V, Role>>,
+    made: Vec<bool>,
+}
+
+// The script of the card's other lines.
+fn read_script<V: Written + Drop>(
     heap: Global,
     count: usize,
     lines: &mut Lines<'_>,
-    calls: &mut Vec<Call<V>>,
-    good: &mut Vec<bool>,
-) -> Result<(), Fault> {
+) -> Result<Script<V>, Fault> {
+    let mut calls = Vec::new(heap);
+    let mut made = Vec::new(heap);
     while let Some(line) = lines.next() {
         match read_line(heap, count, line) {
             Ok(line) => {
-                let call = call_of(heap, line)?;
-                let Ok(()) = calls.push(call) else {
-                    return Err(Fault::Memory);
-                };
-                let Ok(()) = good.push(true) else {
-                    return Err(Fault::Memory);
-                };
+                calls.push(call_of(heap, line)?)?;
+                made.push(true)?;
             }
-            Err(Fault::Form) => {
-                let Ok(()) = good.push(false) else {
-                    return Err(Fault::Memory);
-                };
-            }
+            Err(Fault::Form) => made.push(false)?,
             Err(Fault::Memory) => return Err(Fault::Memory),
         }
     }
-    Ok(())
+    Ok(Script { calls, made })
 }
 
 // The answers to the lines after the first, for a sheet of `count` values of one kind.
@@ -50,20 +48,13 @@ fn run_lines<V: Written + Kind + Drop>(
     lines: &mut Lines<'_>,
     out: &mut Vec<u8>,
 ) -> Result<(), Fault> {
-    let mut calls = Vec::new(heap);
-    let mut good = Vec::new(heap);
-    read_lines::<V>(heap, count, lines, &mut calls, &mut good)?;
-    let Ok(ran) = run(heap, count, calls.as_slice()) else {
-        return Err(Fault::Memory);
-    };
-    let answers = ran.answers;
-    let mut next = 0;
-    for fine in good.as_slice() {
-        if *fine && next < answers.len() {
-            put_answer(out, &answers[next])?;
-            next += 1;
-        } else {
-            put_refusal(out, Refusal::Form)?;
+    let script = read_script::<V>(heap, count, lines)?;
+    let ran = run(heap, count, script.calls.as_slice()).map_err(|_| Fault::Memory)?;
+    let mut answers = ran.answers.iter();
+    for made in &script.made {
+        match if *made { answers.next() } else { None } {
+            Some(answer) => put_answer(out, answer)?,
+            None => put_refusal(out, Refusal::Form)?,
         }
     }
     Ok(())
@@ -102,6 +93,6 @@ pub fn run_card(heap: Global, card: &[u8]) -> Result<Vec<u8>, Fault> {
         Err(Fault::Form) => put_refusal(&mut out, Refusal::Form)?,
         Err(Fault::Memory) => return Err(Fault::Memory),
     }
-    put_bytes(&mut out, b"end\n")?;
+    append_bytes(b"end\n", &mut out)?;
     Ok(out)
 }

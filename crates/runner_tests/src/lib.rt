@@ -9,13 +9,9 @@ mod tests {
 
     // The card prints these answers.
     fn prints(rt: &(impl Abort + AllocGlobal), card: &[u8], answers: &[u8]) -> Result<(), Fail> {
-        match run_card(rt.alloc(), card) {
-            Ok(out) => {
-                assert!(rt; out.as_slice() == answers);
-                Ok(())
-            },
-            Err(_) => Err(Fail::new("no memory")),
-        }
+        let out = run_card(rt.alloc(), card).map_err(|_| Fail::new("no memory"))?;
+        assert!(rt; out.as_slice() == answers);
+        Ok(())
     }
 
     #[test]

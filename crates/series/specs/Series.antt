@@ -8,8 +8,8 @@ use Rattle.law.specs.Run.{Run}
 use Rattle.calls.specs.Shown.{reply_of}
 use Rattle.steps.specs.Lists.{by_parameter}
 use Rattle.desk.specs.Desks.{fresh}
-use Rattle.desk.specs.declared.opening.Fault.{Fault}
-use Rattle.desk.specs.declared.opening.Fault.TheVariants.{Refused, Memory}
+use Rattle.desk.specs.declared.fault.Fault.{Fault}
+use Rattle.desk.specs.declared.fault.Fault.TheVariants.{Refused, Memory}
 use Rattle.series.specs.declared.running.Ran.{Ran}
 
 -- The calls make a run, with these answers and these values at the end, by which the law holds; or the opening is refused; or there was no memory.

@@ -5,6 +5,7 @@ ghost use Rattle.series.specs.Series.{RanLawfully};
 use calls::{Answer, Call};
 use desk::{Closed, Desk, Fault};
 use kinds::Kind;
+use records::Role;
 use std::alloc::Global;
 
 // What a series of calls gave: an answer to each, and the sheet's values at the end, numerators over a denominator.
@@ -16,20 +17,13 @@ pub struct Ran<K> {
 }
 
 // Opens a sheet of `count` parameters and makes the calls in their order. A grip that is open at the end is dropped.
-pub fn run<K: Kind>(heap: Global, count: usize, calls: &[Call<K>]) -> Result<Ran<K>, Fault>
+pub fn run<K: Kind>(heap: Global, count: usize, calls: &[Call<K, Role>]) -> Result<Ran<K>, Fault>
     ensures { RanLawfully K.size K.coords count (map (call_of K.coords) calls.now) result }
 {
-    let Ok(mut answers) = Vec::with_capacity(heap, calls.len()) else {
-        return Err(Fault::Memory);
-    };
-    let mut desk = match Desk::open(heap, count) {
-        Ok(desk) => desk,
-        Err(fault) => return Err(fault),
-    };
+    let mut answers = Vec::with_capacity(heap, calls.len())?;
+    let mut desk = Desk::open(heap, count)?;
     for call in calls {
-        let Ok((next, answer)) = desk.call(heap, call) else {
-            return Err(Fault::Memory);
-        };
+        let (next, answer) = desk.call(heap, call)?;
         desk = next;
         answers.push_reserved(answer);
     }

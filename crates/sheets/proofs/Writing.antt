@@ -1,11 +1,14 @@
 -- Values written one place after the other.
-use Rattle.std.proofs.Common.{◌≡◌, ℕ, zero, suc, ◌+◌, ◌<◌, List, [], ◌∷◌, map, length, get_or, set, replicate, ℤ, pos, sym, refl, ap, ◌∙◌, ap₂, zero-add, arith}
+use Rattle.std.proofs.Common.{◌≡◌, ℕ, zero, suc, ◌+◌, ◌<◌, ◌≤◌, List, [], ◌∷◌, ◌++◌, map, length, take, drop, get_or, set, replicate, ℤ, pos, sym, refl, ap, ◌∙◌, ap₂, zero-add, arith, append-nil}
 use lib.Seq.{paste}
-use Rattle.std.proofs.lemmas.List.{map-set, length-map}
+use Rattle.std.proofs.lemmas.List.{map-set, map-append, drop-map, length-map, length-take-le, take_all, drop_all}
 use Rattle.std.proofs.lemmas.List.Edits.{paste_more}
 use Rattle.whole.specs.Lists.{tab}
 use Rattle.whole.proofs.Lists.{tab-length, get_or-tab}
+use Rattle.records.specs.declared.relation.Mark.TheVariants.{Idle}
+use Rattle.rules.specs.Limits.{most_parameters}
 use Rattle.rules.specs.Values.{zeros, written}
+use Rattle.rules.specs.Calls.{recorded}
 
 replicate-tab : (size : ℕ) (z : ℤ) → replicate size z ≡ tab size (λ c. z)
 replicate-tab zero z = refl
@@ -26,3 +29,20 @@ pub cleared_more : {K : Type 0} (f : K → List ℤ) (start xs : List K) (n s : 
 cleared_more f start xs n s v size h room e p =
     let l = tab-length n (λ k. tab size (λ c. pos 0)) in
     written_more f start xs (zeros n size) s v (omega arith) room (e ∙ replicate-tab size (pos 0) ∙ sym (get_or-tab n (λ k. tab size (λ c. pos 0)) [] s h)) p
+
+-- all places are written
+pub written_all : {X : Type 0} (n : ℕ) (new old : List X) → length new ≤ n → length old ≤ n → written n new old ≡ new
+written_all n new old h k = ap₂ (λ (a b : List _). a ++ b) (take_all n new h) (drop_all (0 + n) old (omega arith)) ∙ append-nil new
+
+-- the first n places are written as a part of their own
+pub written_front : {K : Type 0} (f : K → List ℤ) (n : ℕ) (zs : List (List ℤ)) (new old : List K) → map f new ≡ zs → length zs ≤ n → map f (new ++ drop n old) ≡ written n zs (map f old)
+written_front f n zs new old e h =
+    map-append f new (drop n old)
+    ∙ ap₂ (λ (a b : List (List ℤ)). a ++ b) (e ∙ sym (take_all n zs h)) (sym (drop-map f n old) ∙ ap (λ (j : ℕ). drop j (map f old)) (sym (zero-add n)))
+
+-- a relation recorded from its first n coefficients
+pub recorded_front : (n : ℕ) (cs : List ℤ) → n ≤ length cs → recorded (length (take n cs)) (take n cs) ≡ recorded n cs
+recorded_front n cs h =
+    let l = length-take-le n cs h in
+    ap (λ (k : ℕ). recorded k (take n cs)) l
+    ∙ ap (λ (xs : List ℤ). record { coefficients = xs ++ drop (0 + n) (replicate most_parameters (pos 0)); mark = Idle }) (take_all n (take n cs) (omega (arith, l)))

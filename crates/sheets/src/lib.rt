@@ -5,3 +5,4 @@ mod record;
 
 pub use record::Sheet;
 pub use record::limits::{unfit, unfit_values};
+pub use record::opening::clear;

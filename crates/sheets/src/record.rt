@@ -5,7 +5,8 @@ pub mod limits;
 pub mod opening;
 pub mod reading;
 
-// A sheet's own numbers. Its values, relations and constants lie in the caller's lists.
+// A sheet's own numbers. Its values, relations and constants lie in the caller's lists, the constants beside the relations. Each
+// call is lent them one by one, since what it may write of them differs from call to call.
 #[derive(Drop)]
 pub struct Sheet {
     // how many parameters

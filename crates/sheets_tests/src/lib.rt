@@ -12,44 +12,39 @@ mod tests {
         mark: Mark::Idle,
     };
 
-    fn number(r: Result<(), Refusal>) -> u8 {
+    const SEVEN: Length = Length { x: 7 };
+
+    // Acceptance, or the number of the refusal.
+    fn answered<T: Drop>(r: Result<T, Refusal>) -> Result<(), u8> {
         match r {
-            Ok(()) => 0,
-            Err(refusal) => refusal.number(),
+            Ok(_) => Ok(()),
+            Err(refusal) => Err(refusal.number()),
         }
     }
 
-    fn opened(count: usize, places: usize) -> u8 {
-        let mut values = [Length { x: 7 }; 50];
-        if places > 50 {
-            return 99;
-        }
-        match Sheet::open(count, &mut values[0..places]) {
-            Ok(_) => 0,
-            Err(refusal) => refusal.number(),
-        }
+    // What opening a sheet of `count` parameters gives with these places for their values.
+    fn opened(count: usize, places: &mut [Length]) -> Result<(), u8> {
+        answered(Sheet::open(count, places))
     }
 
     #[test]
     fn one_to_forty_eight_parameters(rt: HostRuntime) {
-        assert_eq!(rt; opened(0, 50), 2);
-        assert_eq!(rt; opened(1, 1), 0);
-        assert_eq!(rt; opened(48, 48), 0);
-        assert_eq!(rt; opened(48, 47), 1);
-        assert_eq!(rt; opened(49, 48), 2);
-        assert_eq!(rt; opened(49, 47), 1);
+        assert_eq!(rt; opened(0, &mut [SEVEN; 50]), Err(2));
+        assert_eq!(rt; opened(1, &mut [SEVEN; 1]), Ok(()));
+        assert_eq!(rt; opened(48, &mut [SEVEN; 48]), Ok(()));
+        assert_eq!(rt; opened(48, &mut [SEVEN; 47]), Err(1));
+        assert_eq!(rt; opened(49, &mut [SEVEN; 48]), Err(2));
+        assert_eq!(rt; opened(49, &mut [SEVEN; 47]), Err(1));
     }
 
     // What binding x = q gives, where x is 47,560 over 1.
-    fn bound(coefficient: i64, q: i64) -> u8 {
+    fn bound(coefficient: i64, q: i64) -> Result<(), u8> {
         let mut values = [Length { x: 0 }; 1];
-        let Ok(mut sheet) = Sheet::open(1, &mut values) else {
-            return 99;
-        };
+        let mut sheet = Sheet::open(1, &mut values).map_err(|refusal| refusal.number())?;
         values[0] = Length { x: 47_560 };
         let mut relations = [NONE; 24];
         let mut constants = [Length { x: 0 }; 24];
-        number(sheet.bind(
+        answered(sheet.bind(
             &values,
             &mut relations,
             &mut constants,
@@ -60,36 +55,34 @@ mod tests {
 
     #[test]
     fn coefficients_and_constants(rt: HostRuntime) {
-        assert_eq!(rt; bound(1000, 47_560_000), 0);
-        assert_eq!(rt; bound(-1000, -47_560_000), 0);
-        assert_eq!(rt; bound(1001, 0), 4);
-        assert_eq!(rt; bound(-1001, 0), 4);
-        assert_eq!(rt; bound(0, 0), 4);
-        assert_eq!(rt; bound(1, 47_560_001), 5);
-        assert_eq!(rt; bound(1, -47_560_001), 5);
-        assert_eq!(rt; bound(1, 47_559), 6);
+        assert_eq!(rt; bound(1000, 47_560_000), Ok(()));
+        assert_eq!(rt; bound(-1000, -47_560_000), Ok(()));
+        assert_eq!(rt; bound(1001, 0), Err(4));
+        assert_eq!(rt; bound(-1001, 0), Err(4));
+        assert_eq!(rt; bound(0, 0), Err(4));
+        assert_eq!(rt; bound(1, 47_560_001), Err(5));
+        assert_eq!(rt; bound(1, -47_560_001), Err(5));
+        assert_eq!(rt; bound(1, 47_559), Err(6));
     }
 
     // What unbinding gives on a sheet of one value with this denominator.
-    fn unbound(value: i64, denominator: i64, number_of: i64) -> u8 {
+    fn unbound(value: i64, denominator: i64, number: i64) -> Result<(), u8> {
         let mut values = [Length { x: 0 }; 1];
-        let Ok(mut sheet) = Sheet::open(1, &mut values) else {
-            return 99;
-        };
+        let mut sheet = Sheet::open(1, &mut values).map_err(|refusal| refusal.number())?;
         values[0] = Length { x: value };
         sheet.denominator = denominator;
         let mut relations = [NONE; 24];
         let mut constants = [Length { x: 0 }; 24];
-        number(sheet.unbind(&values, &mut relations, &mut constants, number_of))
+        answered(sheet.unbind(&values, &mut relations, &mut constants, number))
     }
 
     #[test]
     fn broken_values_and_denominators(rt: HostRuntime) {
-        assert_eq!(rt; unbound(47_560, 1, 0), 7);
-        assert_eq!(rt; unbound(47_561, 1, 0), 1);
-        assert_eq!(rt; unbound(-47_561, 1, 0), 1);
-        assert_eq!(rt; unbound(0, 0, 0), 1);
-        assert_eq!(rt; unbound(0, 45_000, -1), 7);
-        assert_eq!(rt; unbound(0, 45_001, 0), 1);
+        assert_eq!(rt; unbound(47_560, 1, 0), Err(7));
+        assert_eq!(rt; unbound(47_561, 1, 0), Err(1));
+        assert_eq!(rt; unbound(-47_561, 1, 0), Err(1));
+        assert_eq!(rt; unbound(0, 0, 0), Err(1));
+        assert_eq!(rt; unbound(0, 45_000, -1), Err(7));
+        assert_eq!(rt; unbound(0, 45_001, 0), Err(1));
     }
 }

@@ -12,8 +12,7 @@ use Rattle.rules.specs.Sheets as rules
 use Rattle.rules.specs.Calls.{grip_answer, marks_after, spare_numbers, Listed}
 use Rattle.rules.specs.Runs as runs
 use Rattle.grips.specs.Shown.{handing_back}
-use Rattle.calls.specs.declared.answer.Answer.{Answer}
-use Rattle.calls.specs.Shown.{reply_of}
+use Rattle.calls.specs.Shown.{Answer, reply_of}
 use Rattle.steps.specs.declared.state.State.{State}
 use Rattle.steps.specs.declared.lists.Lists.{Lists}
 use Rattle.steps.specs.Steps.{in_use, Means, Stepped}

@@ -1,4 +1,5 @@
 -- What a keep on a desk comes to.
+use Rattle.calls.specs.Shown.{Answer}
 use Rattle.std.proofs.Common.{◌≡◌, ℕ, Bool, true, false, cond, ◌||◌, List, map, length, ℤ, Ok, Err, vec_items, Result, sym, refl, ap, ◌∙◌, subst, arith}
 use Rattle.linear.proofs.Outcomes.{not_accepted}
 use Rattle.records.specs.declared.refusal.Refusal.{Refusal}
@@ -9,7 +10,6 @@ use Rattle.rules.specs.Sheets as rules
 use Rattle.rules.specs.Calls.{keeping}
 use Rattle.rules.specs.Runs as runs
 use Rattle.grips.specs.Shown.{handing_back}
-use Rattle.calls.specs.declared.answer.Answer.{Answer}
 use Rattle.steps.specs.declared.state.State.{State}
 use Rattle.steps.specs.declared.lists.Lists.{Lists}
 use Rattle.steps.specs.Steps.{in_use, Means, Stepped}

@@ -1,4 +1,5 @@
 -- What a pull on a desk comes to.
+use Rattle.calls.specs.Shown.{Answer}
 use Rattle.std.proofs.Common.{◌≡◌, ℕ, ◌≤◌, Bool, true, false, cond, not, ◌||◌, eqb, ltb, List, map, length, take, ℤ, Ok, Err, vec_items, Result, sym, refl, ap, ◌∙◌, subst}
 use Rattle.std.proofs.lemmas.Bool.{or_parts, ltb-false}
 use Rattle.linear.proofs.Outcomes.{not_accepted}
@@ -15,7 +16,6 @@ use Rattle.rules.specs.Calls as Calls
 use Rattle.rules.specs.Calls.{pull_by, unfit_pull, pulling}
 use Rattle.rules.specs.Runs as runs
 use Rattle.grips.specs.Shown.{handing_back}
-use Rattle.calls.specs.declared.answer.Answer.{Answer}
 use Rattle.steps.specs.declared.state.State.{State}
 use Rattle.steps.specs.declared.lists.Lists.{Lists}
 use Rattle.steps.specs.Steps.{in_use, Means, Stepped}

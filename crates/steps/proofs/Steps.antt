@@ -13,8 +13,7 @@ use Rattle.rules.specs.Sheets as rules
 use Rattle.rules.specs.Calls.{grip_on, grip_answer}
 use Rattle.rules.specs.Runs as runs
 use Rattle.grips.specs.Shown.{handing_back}
-use Rattle.calls.specs.declared.answer.Answer.{Answer}
-use Rattle.calls.specs.Shown.{reply_of}
+use Rattle.calls.specs.Shown.{Answer, reply_of}
 use Rattle.steps.specs.declared.state.State.{State}
 use Rattle.steps.specs.declared.state.State.TheVariants.{Free, Gripped, Proposed}
 use Rattle.steps.specs.declared.lists.Lists.{Lists}
@@ -85,8 +84,8 @@ module _ {A : Type 0} (s t : rules.Sheet) where
 -- a desk's values lie in its list, whatever its state
 pub values_in : {K : Type 0} (f : K → Coords) (l : Lists K) (state : State) → (use_in f l state).values ≡ map f (vec_items l.values)
 values_in f l (Free s) = refl
-values_in f l (Gripped g w) = refl
-values_in f l (Proposed g w d) = refl
+values_in f l (Gripped h) = refl
+values_in f l (Proposed h d) = refl
 
 -- a call is made as its step was, where there was memory for it
 pub called : {K : Type 0} (f : K → Coords) (o p : runs.Outcome) (l m : Lists K) (given r : Result (State × Answer K) AllocError) (state : State) (answer : Answer K)

@@ -7,8 +7,7 @@ use Rattle.rules.specs.Values.{Coords}
 use Rattle.sheets.specs.Shown.{numbers}
 use Rattle.workings.specs.Shown.{shown}
 use Rattle.grips.specs.Shown.{gripped_sheet}
-use Rattle.calls.specs.declared.answer.Answer.{Answer}
-use Rattle.calls.specs.Shown.{reply_of}
+use Rattle.calls.specs.Shown.{Answer, reply_of}
 use Rattle.steps.specs.declared.state.State.{State}
 use Rattle.steps.specs.declared.state.State.TheVariants as s
 use Rattle.steps.specs.declared.lists.Lists.{Lists}
@@ -28,8 +27,8 @@ in_use f l sheet phase = record {
 
 abbrev pub use_in : {K : Type 0} → (K → Coords) → Lists K → State → runs.Use
 use_in f l (s.Free sheet) = in_use f l (numbers sheet) runs.free
-use_in f l (s.Gripped g w) = in_use f l (gripped_sheet g) (runs.gripped (shown (box_value w)))
-use_in f l (s.Proposed g w d) = in_use f l (gripped_sheet g) (runs.proposing (shown (box_value w)) d)
+use_in f l (s.Gripped h) = in_use f l (gripped_sheet h.grip) (runs.gripped (shown (box_value h.workings)))
+use_in f l (s.Proposed h d) = in_use f l (gripped_sheet h.grip) (runs.proposing (shown (box_value h.workings)) d)
 
 -- A state and an answer by what they mean, whatever the lists hold.
 pub record Means {K : Type 0} (f : K → Coords) (sheet : rules.Sheet) (phase : runs.Phase) (reply : runs.Reply) (r : State × Answer K) : Type 0 where

@@ -7,9 +7,10 @@ ghost use Rattle.sheets.specs.Shown.{numbers};
 ghost use Rattle.workings.specs.Shown.{shown};
 ghost use Rattle.steps.specs.Steps.{in_use, Means, Stepped, SteppedIn};
 
+use crate::held::Held;
 use crate::lists::Lists;
 use crate::state::State;
-use calls::Answer;
+use calls::{Answer, Given};
 use grips::{Grip, Gripped, Refused, Unproposed};
 use kinds::Kind;
 use records::{Refusal, Role};
@@ -21,21 +22,17 @@ use workings::Workings;
 fn done<K: Kind>(r: Result<(), Refusal>) -> Answer<K>
     ensures { reply_of K.coords result ≡ runs.reply_to r }
 {
-    match r {
-        Ok(()) => Answer::Done,
-        Err(refusal) => Answer::Refused(refusal),
-    }
+    r.map(|()| Given::Nothing)
 }
 
 pub fn bind_step<K: Kind>(
     lists: &mut Lists<K>,
-    sheet: Sheet,
+    mut sheet: Sheet,
     coefficients: &[i64],
     q: K,
 ) -> (State, Answer<K>)
     ensures { Stepped K.coords (runs.binds K.size (in_use K.coords lists.old (numbers sheet) runs.free) coefficients.now (K.coords q)) lists.new result }
 {
-    let mut sheet = sheet;
     let r = sheet.bind(
         &lists.values,
         &mut lists.relations,
@@ -46,10 +43,13 @@ pub fn bind_step<K: Kind>(
     (State::Free(sheet), done(r))
 }
 
-pub fn unbind_step<K: Kind>(lists: &mut Lists<K>, sheet: Sheet, number: i64) -> (State, Answer<K>)
+pub fn unbind_step<K: Kind>(
+    lists: &mut Lists<K>,
+    mut sheet: Sheet,
+    number: i64,
+) -> (State, Answer<K>)
     ensures { Stepped K.coords (runs.unbinds K.size (in_use K.coords lists.old (numbers sheet) runs.free) number) lists.new result }
 {
-    let mut sheet = sheet;
     let r = sheet.unbind(
         &lists.values,
         &mut lists.relations,
@@ -76,7 +76,10 @@ fn gripped<K: Kind>(
         }
     };
     match Vec::from_slice(heap, spares) {
-        Ok(numbers) => Ok((State::Gripped(grip, workings), Answer::Spares(numbers))),
+        Ok(numbers) => Ok((
+            State::Gripped(Held { grip, workings }),
+            Ok(Given::Spares(numbers)),
+        )),
         Err(e) => {
             let _ = grip.release();
             Err(e)
@@ -108,9 +111,6 @@ pub fn grip_step<K: Kind>(
             } = taken;
             gripped(heap, grip, workings, &lists.spare.as_slice()[0..spares])
         }
-        Err(no) => {
-            let Refused { back, refusal } = no;
-            Ok((State::Free(back), Answer::Refused(refusal)))
-        }
+        Err(Refused { back, refusal }) => Ok((State::Free(back), Err(refusal))),
     }
 }

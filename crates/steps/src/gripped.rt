@@ -5,31 +5,30 @@ ghost use Rattle.grips.specs.Shown.{gripped_sheet};
 ghost use Rattle.workings.specs.Shown.{shown};
 ghost use Rattle.steps.specs.Steps.{in_use, Means, Stepped, SteppedIn};
 
+use crate::held::Held;
 use crate::lists::Lists;
 use crate::state::State;
-use calls::Answer;
-use grips::{Grip, Proposed, Refused};
+use calls::{Answer, Given};
+use grips::{Proposed, Refused};
 use kinds::Kind;
 use std::alloc::{AllocError, Global};
-use workings::Workings;
 
 // A grip with a proposal over a denominator, and the numerators of the proposal; without memory for them there is no grip.
 fn proposed<K: Kind>(
     heap: Global,
-    grip: Grip<Proposed>,
-    workings: Box<Workings>,
+    held: Held<Proposed>,
     denominator: i64,
     numerators: &[K],
 ) -> Result<(State, Answer<K>), AllocError>
-    ensures { IfOk result (Means K.coords (gripped_sheet grip) (runs.proposing (shown workings.value) denominator) (Ok (runs.placing (record { over = denominator; nums = map K.coords numerators.now })))) }
+    ensures { IfOk result (Means K.coords (gripped_sheet held.grip) (runs.proposing (shown held.workings.value) denominator) (Ok (runs.placing (record { over = denominator; nums = map K.coords numerators.now })))) }
 {
     match Vec::from_slice(heap, numerators) {
         Ok(numerators) => Ok((
-            State::Proposed(grip, workings, denominator),
-            Answer::Placing(denominator, numerators),
+            State::Proposed(held, denominator),
+            Ok(Given::Placing(denominator, numerators)),
         )),
         Err(e) => {
-            let _ = grip.release();
+            let _ = held.release();
             Err(e)
         }
     }
@@ -39,12 +38,12 @@ fn proposed<K: Kind>(
 pub fn pull_step<K: Kind, P: Drop>(
     heap: Global,
     lists: &mut Lists<K>,
-    grip: Grip<P>,
-    workings: Box<Workings>,
+    held: Held<P>,
     wishes: &[K],
 ) -> Result<(State, Answer<K>), AllocError>
-    ensures { SteppedIn K.coords (runs.pulls K.size (in_use K.coords lists.old (gripped_sheet grip) (runs.gripped (shown workings.value))) (shown workings.value) (map K.coords wishes.now)) lists.new result }
+    ensures { SteppedIn K.coords (runs.pulls K.size (in_use K.coords lists.old (gripped_sheet held.grip) (runs.gripped (shown held.workings.value))) (shown held.workings.value) (map K.coords wishes.now)) lists.new result }
 {
+    let Held { grip, workings } = held;
     match grip.pull(
         &lists.values,
         &lists.relations,
@@ -54,33 +53,34 @@ pub fn pull_step<K: Kind, P: Drop>(
         &mut lists.proposal,
         &mut lists.working,
     ) {
-        Ok(pulled) => {
-            let (grip, denominator) = pulled;
+        Ok((grip, denominator)) => {
             let n = grip.count();
             proposed(
                 heap,
-                grip,
-                workings,
+                Held { grip, workings },
                 denominator,
                 &lists.proposal.as_slice()[0..n],
             )
         }
-        Err(no) => {
-            let Refused { back, refusal } = no;
-            Ok((State::Gripped(back, workings), Answer::Refused(refusal)))
-        }
+        Err(Refused { back, refusal }) => Ok((
+            State::Gripped(Held {
+                grip: back,
+                workings,
+            }),
+            Err(refusal),
+        )),
     }
 }
 
 // A keep of the proposal.
 pub fn keep_step<K: Kind>(
     lists: &mut Lists<K>,
-    grip: Grip<Proposed>,
-    workings: Box<Workings>,
+    held: Held<Proposed>,
     denominator: i64,
 ) -> (State, Answer<K>)
-    ensures { Stepped K.coords (runs.keeps K.size (in_use K.coords lists.old (gripped_sheet grip) (runs.proposing (shown workings.value) denominator)) denominator) lists.new result }
+    ensures { Stepped K.coords (runs.keeps K.size (in_use K.coords lists.old (gripped_sheet held.grip) (runs.proposing (shown held.workings.value) denominator)) denominator) lists.new result }
 {
+    let Held { grip, workings } = held;
     match grip.keep(
         &mut lists.values,
         &lists.relations,
@@ -88,13 +88,16 @@ pub fn keep_step<K: Kind>(
         &lists.proposal,
         denominator,
     ) {
-        Ok(sheet) => (State::Free(sheet), Answer::Done),
-        Err(no) => {
-            let Refused { back, refusal } = no;
-            (
-                State::Proposed(back, workings, denominator),
-                Answer::Refused(refusal),
-            )
-        }
+        Ok(sheet) => (State::Free(sheet), Ok(Given::Nothing)),
+        Err(Refused { back, refusal }) => (
+            State::Proposed(
+                Held {
+                    grip: back,
+                    workings,
+                },
+                denominator,
+            ),
+            Err(refusal),
+        ),
     }
 }

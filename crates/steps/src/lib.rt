@@ -3,10 +3,12 @@
 
 mod free;
 mod gripped;
+mod held;
 mod lists;
 mod state;
 
 pub use free::{bind_step, grip_step, unbind_step};
 pub use gripped::{keep_step, pull_step};
+pub use held::Held;
 pub use lists::Lists;
 pub use state::State;

@@ -26,7 +26,7 @@ const WORKING: usize = 24;
 
 const SPARES: usize = 12;
 
-// n values of zero.
+// n values of zero, put in one by one: the library's `vec!` copies by a clone that must not fail, and a kind promises none.
 fn zeros_of<K: Kind>(heap: Global, n: usize) -> Result<Vec<K>, AllocError>
     ensures { IfOk result (λ v. map K.coords v.items ≡ zeros n K.size) }
 {

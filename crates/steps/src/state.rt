@@ -1,10 +1,10 @@
-use grips::{Grip, Proposed, Unproposed};
+use crate::held::Held;
+use grips::{Proposed, Unproposed};
 use sheets::Sheet;
-use workings::Workings;
 
 // What a sheet is in: no grip, a grip, or a grip with a proposal over a denominator.
 pub enum State {
     Free(Sheet),
-    Gripped(Grip<Unproposed>, Box<Workings>),
-    Proposed(Grip<Proposed>, Box<Workings>, i64),
+    Gripped(Held<Unproposed>),
+    Proposed(Held<Proposed>, i64),
 }

@@ -16,9 +16,6 @@ use Rattle.table.specs.Tables.{no_row, cell, grid}
 
 -- row i is written in its left half, and has its 1 in place m + i
 module _ (m i : ℕ) (f : ℕ → ℤ) (few : m ≤ 12) (h : i < m) where
-  zeros : List ℤ
-  zeros = replicate 24 (pos 0)
-
   before : (b : ℕ) → b < m + m → (b ≡ m + i → ⊥) → at (tab m f ++ drop m (replicate 24 (pos 0))) b ≡ cond (ltb b m) (f b) (unit i (b - m))
   before b l d = ⊎_elim low high (cases_lt b m)
     where

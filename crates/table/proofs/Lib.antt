@@ -7,3 +7,4 @@ pub mod Steps
 pub mod Loops
 pub mod First
 pub mod Inside
+pub mod Whole

@@ -1,6 +1,5 @@
 -- What the loops over steps and rows find in the table, as its bits show it.
 use Rattle.std.proofs.Common.{◌≡◌, ℕ, ◌+◌, ◌<◌, ◌≤◌, Bool, true, false, ◌||◌, eqb, length, get_or, set, ℤ, nat_abs, Ok, Err, sym, ap, ◌∙◌, subst, ap₂, arith, w64, SFits, to_z, of_z}
-use Rattle.std.proofs.lemmas.List.{get_or-set_same}
 use Rattle.std.proofs.lemmas.Int.{to_z-of_z}
 use Rattle.records.specs.declared.refusal.Refusal.TheVariants.{TableTooLarge}
 use Rattle.whole.specs.Tests.{is_zero}
@@ -82,16 +81,13 @@ module _ (m k : ℕ) (s : Grid) (t : Table) (so : eliminated m k s ≡ Ok (grid 
         changes : (eqb i k || is_zero (entry (grid m t) i k)) ≡ false
         changes = tested false asked
 
-        read_back : (b : Bool) → b ≡ row_beyond (m + m) (get_or (set t'.rows i row) i no_row).cells → row_beyond (m + m) row.cells ≡ b
-        read_back b e = sym (e ∙ ap (λ (r : Row). row_beyond (m + m) r.cells) (get_or-set_same t'.rows i row no_row few))
-
-        pub turned_on : false ≡ row_beyond (m + m) (get_or (set t'.rows i row) i no_row).cells → Turning m k (grid m t) (i + 1) (record { rows = set t'.rows i row })
+        pub turned_on : false ≡ row_beyond (m + m) row.cells → Turning m k (grid m t) (i + 1) (record { rows = set t'.rows i row })
         turned_on e =
-            turning_changed m k (grid m t) i t' T i<m few (get_or t.rows k no_row) row (λ b l. sym (entry-grid m t k b k<m l)) changes made_so (read_back false e)
+            turning_changed m k (grid m t) i t' T i<m few (get_or t.rows k no_row) row (λ b l. sym (entry-grid m t k b k<m l)) changes made_so (sym e)
 
-        pub refused : true ≡ row_beyond (m + m) (get_or (set t'.rows i row) i no_row).cells → Err TableTooLarge ≡ eliminated m m s
+        pub refused : true ≡ row_beyond (m + m) row.cells → Err TableTooLarge ≡ eliminated m m s
         refused e =
             sym (refused_stays m (k + 1) m s TableTooLarge (omega arith)
             (next_step m k s (grid m t) so
             ∙ passes_limit m (step m k (grid m t)) (step-beyond m k (grid m t) needed
-            ∙ row_too_large m k (grid m t) i t' T i<m few (get_or t.rows k no_row) row (λ b l. sym (entry-grid m t k b k<m l)) changes made_so (read_back true e))))
+            ∙ row_too_large m k (grid m t) i t' T i<m few (get_or t.rows k no_row) row (λ b l. sym (entry-grid m t k b k<m l)) changes made_so (sym e))))

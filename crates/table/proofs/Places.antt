@@ -1,11 +1,10 @@
 -- A loop that writes place after place.
-use Rattle.std.proofs.Common.{◌≡◌, ℕ, zero, suc, ◌+◌, ◌-◌, ◌<◌, ◌≤◌, Bool, false, List, [], ◌∷◌, ◌++◌, length, get_or, drop, set, ℤ, pos, ◌+ℤ◌, sym, refl, ap, ◌∙◌, ⊎_elim, append_assoc, add-one, arith}
+use Rattle.std.proofs.Common.{◌≡◌, ℕ, zero, suc, ◌+◌, ◌-◌, ◌<◌, Bool, false, List, [], ◌∷◌, ◌++◌, length, get_or, drop, set, ℤ, pos, ◌+ℤ◌, sym, refl, ap, ◌∙◌, append_assoc, add-one, arith}
 use Rattle.std.proofs.lemmas.List.{drop_more, set_at, get_or-append_right, get_or-drop}
-use Rattle.std.proofs.lemmas.Bool.{or_from, cases_lt}
+use Rattle.std.proofs.lemmas.Bool.{or_from}
 use Rattle.whole.specs.Lists.{tab}
 use Rattle.whole.specs.Sums.{sum}
 use Rattle.whole.specs.Tests.{any}
-use Rattle.whole.proofs.Tests.{none_any, any_false}
 
 -- `done` is written, the rest of `xs` is as it was
 module _ {X : Type 0} (done xs cells : List X) (j : ℕ) (is : cells ≡ done ++ drop j xs) (far : length done ≡ j) (h : j < length xs) where
@@ -32,9 +31,6 @@ tab_more n f = ap (λ k. tab k f) (add-one n) ∙ tab_suc n f
 
 pub any_more : (n : ℕ) (p : ℕ → Bool) → any n p ≡ false → p n ≡ false → any (n + 1) p ≡ false
 any_more n p e f = ap (λ (k : ℕ). any k p) (add-one n) ∙ or_from (any n p) (p n) e f
-
-pub any_past : (n k : ℕ) (p : ℕ → Bool) → any k p ≡ false → ((j : ℕ) → k ≤ j → j < n → p j ≡ false) → any n p ≡ false
-any_past n k p e f = none_any n p (λ j l. ⊎_elim (λ q. any_false k p e j q) (λ q. f j q l) (cases_lt j k))
 
 pub sum-none : (f : ℕ → ℤ) → sum 0 f ≡ pos 0
 unfolding sum

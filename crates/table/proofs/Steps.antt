@@ -19,9 +19,6 @@ use Rattle.table.proofs.Turns.{Turning}
 pub next_step : (m k : ℕ) (s u : Grid) → eliminated m k s ≡ Ok u → eliminated m (k + 1) s ≡ within_limit m (step m k u)
 next_step m k s u e = ap (λ (n : ℕ). eliminated m n s) (add-one k) ∙ ap (λ r. onward r (λ u. within_limit m (step m k u))) e
 
-pub first_step : (m : ℕ) (s : Grid) → beyond m s ≡ false → eliminated m 0 s ≡ Ok s
-first_step m s e = ap (λ (b : Bool). guard b TableTooLarge (Ok s)) e
-
 pub fits_limit : (m : ℕ) (u : Grid) → beyond m u ≡ false → within_limit m u ≡ Ok u
 fits_limit m u e = ap (λ (b : Bool). guard b TableTooLarge (Ok u)) e
 

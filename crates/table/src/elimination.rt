@@ -1,10 +1,10 @@
-ghost use Rattle.std.specs.Prelude.{◌≡◌, ◌≤◌, false, ◌||◌, ◌==◌};
+ghost use Rattle.std.specs.Prelude.{◌≡◌, ◌≤◌, false, ◌||◌, length, ◌==◌};
 ghost use Rattle.linear.specs.Elimination.{beyond, eliminated};
 ghost use Rattle.records.specs.Outcomes.{image};
-ghost use Rattle.table.specs.Tables.{grid};
+ghost use Rattle.table.specs.Tables.{rows_grid};
 ghost use Rattle.whole.specs.Tests.{is_zero};
 
-use crate::table::Table;
+use crate::row::{Factors, Row};
 use records::Refusal;
 
 // Whether a pivot makes its relation spare: then the step leaves the whole table as it is.
@@ -21,32 +21,32 @@ fn stays(i: usize, k: usize, q: i64) -> bool
     i == k || q == 0
 }
 
-impl Table {
-    // The elimination of the first m rows and 2 m columns. The first number beyond the limit ends it.
-    pub(crate) fn eliminate(mut self, m: usize) -> Result<Table, Refusal>
-        requires { (m ≤ 12) × (beyond m (grid m self) ≡ false) }
-        ensures { image (grid m) result ≡ eliminated m m (grid m self) }
-    {
-        let w = m + m;
-        'steps: {
-            for k in 0..m {
-                let pivot = self.rows[k];
-                let p = pivot.cells[k];
-                if spare(p) {
+// The elimination of m rows in their first 2 m columns. The first number beyond the limit ends it.
+pub(crate) fn eliminate(rows: &mut [Row]) -> Result<(), Refusal>
+    requires { (length rows.old ≤ 12) × (beyond (length rows.old) (rows_grid rows.old) ≡ false) }
+    ensures { let m = length rows.old in
+        image (λ done. rows_grid rows.new) result ≡ eliminated m m (rows_grid rows.old) }
+{
+    let m = rows.len();
+    let w = m + m;
+    'steps: {
+        for k in 0..m {
+            let pivot = rows[k];
+            let p = pivot.cells[k];
+            if spare(p) {
+                continue;
+            }
+            for (i, row) in rows.iter_mut().enumerate() {
+                let q = row.cells[k];
+                if stays(i, k, q) {
                     continue;
                 }
-                for i in 0..m {
-                    let q = self.rows[i].cells[k];
-                    if stays(i, k, q) {
-                        continue;
-                    }
-                    self.rows[i].change(w, p, q, &pivot);
-                    if self.rows[i].beyond(w) {
-                        break 'steps Err(Refusal::TableTooLarge);
-                    }
+                row.change(w, Factors { p, q }, &pivot);
+                if row.beyond(w) {
+                    break 'steps Err(Refusal::TableTooLarge);
                 }
             }
-            Ok(self)
         }
+        Ok(())
     }
 }

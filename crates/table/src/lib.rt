@@ -8,6 +8,5 @@ mod row;
 mod start;
 mod table;
 
-pub use limits::some_above;
 pub use row::Row;
 pub use table::Table;

@@ -1,9 +1,8 @@
-ghost use Rattle.std.specs.Prelude.{◌≡◌, ◌≤◌, ◌++◌, map, take, drop, ℤ, pos, ◌-ℤ◌, ◌*ℤ◌, ◌<ℤ◌, int_div, unsigned_abs};
+ghost use Rattle.std.specs.Prelude.{◌≡◌, ◌≤◌, length, map, pos, ◌-ℤ◌, ◌*ℤ◌, ◌<ℤ◌, int_div, unsigned_abs};
 ghost use Rattle.linear.specs.Elimination.{table_limit};
 ghost use Rattle.table.specs.Limits.{Within};
 ghost use Rattle.table.specs.Rows.{changed, mixed, row_beyond};
 
-use crate::limits::some_above;
 use whole::common_divisor_all;
 
 const LIMIT: u64 = 2_147_483_647;
@@ -14,47 +13,60 @@ pub struct Row {
     pub cells: [i64; 24],
 }
 
-// p × x - q × y.
-fn mix(p: i64, x: i64, q: i64, y: i64) -> i64
-    requires { (unsigned_abs p ≤ table_limit) × ((unsigned_abs x ≤ table_limit) × ((unsigned_abs q ≤ table_limit) × (unsigned_abs y ≤ table_limit))) }
-    ensures { result ≡ p *ℤ x -ℤ q *ℤ y }
+// The factors of a step: a row becomes p × the row - q × the pivot row.
+#[derive(Clone, Copy)]
+pub(crate) struct Factors {
+    pub(crate) p: i64,
+    pub(crate) q: i64,
+    // neither is beyond the limit of a table's numbers
+    ghost row: { unsigned_abs p ≤ table_limit },
+    ghost pivot: { unsigned_abs q ≤ table_limit },
+}
+
+impl Factors {
+    // p × x - q × y.
+    fn mix(self, x: i64, y: i64) -> i64
+        requires { (unsigned_abs x ≤ table_limit) × (unsigned_abs y ≤ table_limit) }
+        ensures { result ≡ self.p *ℤ x -ℤ self.q *ℤ y }
+    {
+        self.p * x - self.q * y
+    }
+
+    // Each number x becomes p × x - q × y, where y is the pivot row's number in its place.
+    fn combine(self, cells: &mut [i64], pivot: &[i64; 24])
+        requires size { length cells.old ≤ 24 }
+        requires rows { Within table_limit (length cells.old) cells.old × Within table_limit (length cells.old) pivot.now }
+        ensures { cells.new ≡ mixed (length cells.old) self.p self.q cells.old pivot.now }
+    {
+        for (j, x) in cells.iter_mut().enumerate() {
+            *x = self.mix(*x, pivot[j]);
+        }
+    }
+}
+
+// Each number is divided by g.
+fn divide(cells: &mut [i64], g: i64)
+    requires { pos 1 <ℤ g }
+    ensures { cells.new ≡ map (λ x. int_div x g) cells.old }
 {
-    p * x - q * y
+    for x in cells {
+        *x /= g;
+    }
 }
 
 impl Row {
-    // The first w numbers become p × this row - q × the pivot row.
-    fn combine(&mut self, w: usize, p: i64, q: i64, pivot: &Row)
-        requires numbers { (w ≤ 24) × ((unsigned_abs p ≤ table_limit) × (unsigned_abs q ≤ table_limit)) }
+    // One step of the elimination on this row: the pivot row is mixed in, and the first w numbers are divided by their greatest
+    // common divisor.
+    pub(crate) fn change(&mut self, w: usize, factors: Factors, pivot: &Row)
+        requires size { w ≤ 24 }
         requires rows { (Within table_limit w self.old.cells) × (Within table_limit w pivot.now.cells) }
-        ensures { self.new.cells ≡ mixed w p q self.old.cells pivot.now.cells ++ drop w self.old.cells }
+        ensures { self.new.cells ≡ changed w factors.p factors.q self.old.cells pivot.now.cells }
     {
-        for j in 0..w {
-            self.cells[j] = mix(p, self.cells[j], q, pivot.cells[j]);
-        }
-    }
-
-    // The first w numbers are divided by g.
-    fn divide(&mut self, w: usize, g: i64)
-        requires { (w ≤ 24) × (pos 1 <ℤ g) }
-        ensures { self.new.cells ≡ map (λ x. int_div x g) (take w self.old.cells) ++ drop w self.old.cells }
-    {
-        for j in 0..w {
-            self.cells[j] = self.cells[j] / g;
-        }
-    }
-
-    // One step of the elimination on this row: p × this row - q × the pivot row, divided by the greatest common divisor
-    // of the first w numbers.
-    pub(crate) fn change(&mut self, w: usize, p: i64, q: i64, pivot: &Row)
-        requires numbers { (w ≤ 24) × ((unsigned_abs p ≤ table_limit) × (unsigned_abs q ≤ table_limit)) }
-        requires rows { (Within table_limit w self.old.cells) × (Within table_limit w pivot.now.cells) }
-        ensures { self.new.cells ≡ changed w p q self.old.cells pivot.now.cells }
-    {
-        self.combine(w, p, q, pivot);
-        let g = common_divisor_all(&self.cells[0..w]);
+        let cells = &mut self.cells[..w];
+        factors.combine(cells, &pivot.cells);
+        let g = common_divisor_all(cells);
         if g > 1 {
-            self.divide(w, g as i64);
+            divide(cells, g as i64);
         }
     }
 
@@ -63,6 +75,6 @@ impl Row {
         requires { w ≤ 24 }
         ensures { result ≡ row_beyond w self.now.cells }
     {
-        some_above(&self.cells, w, LIMIT)
+        self.cells[..w].iter().any(|x| x.unsigned_abs() > LIMIT)
     }
 }

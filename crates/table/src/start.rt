@@ -1,13 +1,12 @@
-ghost use Rattle.std.specs.Prelude.{◌≡◌, ℕ, ◌+◌, ◌<◌, ◌≤◌, [], ◌++◌, drop, replicate, ℤ, pos, ◌*ℤ◌, slice_index_or, slice_set, unsigned_abs};
+ghost use Rattle.std.specs.Prelude.{◌≡◌, ◌+◌, ◌<◌, ◌≤◌, false, ◌++◌, length, drop, replicate, take, pos, ◌*ℤ◌, slice_set, unsigned_abs};
 ghost use Rattle.linear.specs.Elimination.{start};
 ghost use Rattle.linear.specs.Gram.{gram};
-ghost use Rattle.table.specs.Limits.{Within};
-ghost use Rattle.table.specs.Tables.{grid};
+ghost use Rattle.table.specs.Limits.{Within, outside};
+ghost use Rattle.table.specs.Tables.{rows_grid};
 ghost use Rattle.whole.specs.Lists.{at, coord, tab};
 ghost use Rattle.whole.specs.Sums.{sum};
 
 use crate::row::Row;
-use crate::table::Table;
 
 // v × x × y.
 fn weighted(v: i64, x: i64, y: i64) -> i64
@@ -18,45 +17,44 @@ fn weighted(v: i64, x: i64, y: i64) -> i64
     v * (x * y)
 }
 
-// The sum over the first n parameters of v × x × y.
-fn weighted_sum(n: usize, v: &[i64; 48], x: &[i64; 48], y: &[i64; 48]) -> i64
-    requires { (n ≤ 48) × ((Within 12 n v.now) × ((Within 1000 n x.now) × (Within 1000 n y.now))) }
-    ensures { result ≡ sum n (λ s. at v.now s *ℤ (at x.now s *ℤ at y.now s)) }
+// The sum over the parameters of v × x × y.
+fn weighted_sum(shares: &[i64], xs: &[i64; 48], ys: &[i64; 48]) -> i64
+    requires few { length shares.now ≤ 48 }
+    requires shares { Within 12 (length shares.now) shares.now }
+    requires rows { Within 1000 (length shares.now) xs.now × Within 1000 (length shares.now) ys.now }
+    ensures { result ≡ sum (length shares.now) (λ s. at shares.now s *ℤ (at xs.now s *ℤ at ys.now s)) }
 {
     let mut sum = 0;
-    for s in 0..n {
-        sum += weighted(v[s], x[s], y[s]);
+    for (s, v) in shares.iter().enumerate() {
+        sum += weighted(*v, xs[s], ys[s]);
     }
     sum
 }
 
 // Row i of the first table: row i of the sums, then 1 in place i of the unit matrix and 0 elsewhere.
-fn first_row(i: usize, n: usize, m: usize, shares: &[i64; 48], rows: &[[i64; 48]; 12]) -> Row
-    requires sizes { (i < m) × ((m ≤ 12) × (n ≤ 48)) }
-    requires numbers { (Within 12 n shares.now) × (((a : ℕ) → a < m → Within 1000 n (slice_index_or rows.now a []))) }
-    ensures { result.cells ≡ slice_set (tab m (gram n (at shares.now) (coord rows.now) i) ++ drop m (replicate 24 (pos 0))) (m + i) (pos 1) }
+fn first_row(i: usize, shares: &[i64], rows: &[[i64; 48]]) -> Row
+    requires row { i < length rows.now }
+    requires limits { outside (length shares.now) (length rows.now) shares.now rows.now ≡ false }
+    ensures { let m = length rows.now in
+        result.cells ≡ slice_set (tab m (gram (length shares.now) (at shares.now) (coord rows.now) i) ++ drop m (replicate 24 (pos 0))) (m + i) (pos 1) }
 {
     let mut row = Row { cells: [0; 24] };
-    for j in 0..m {
-        row.cells[j] = weighted_sum(n, shares, &rows[i], &rows[j]);
+    for (j, other) in rows.iter().enumerate() {
+        row.cells[j] = weighted_sum(shares, &rows[i], other);
     }
-    row.cells[m + i] = 1;
+    row.cells[rows.len() + i] = 1;
     row
 }
 
-impl Table {
-    // The first table of m relations with n parameters: the sums, then the unit matrix.
-    pub(crate) fn first(n: usize, m: usize, shares: &[i64; 48], rows: &[[i64; 48]; 12]) -> Table
-        requires sizes { (m ≤ 12) × (n ≤ 48) }
-        requires numbers { (Within 12 n shares.now) × (((a : ℕ) → a < m → Within 1000 n (slice_index_or rows.now a []))) }
-        ensures { grid m result ≡ start n m (at shares.now) (coord rows.now) }
-    {
-        let mut table = Table {
-            rows: [Row { cells: [0; 24] }; 12],
-        };
-        for i in 0..m {
-            table.rows[i] = first_row(i, n, m, shares, rows);
-        }
-        table
+// The first table's rows: the sums, then the unit matrix. The places after them are 0.
+pub(crate) fn first_rows(shares: &[i64], rows: &[[i64; 48]]) -> [Row; 12]
+    requires { outside (length shares.now) (length rows.now) shares.now rows.now ≡ false }
+    ensures { rows_grid (take (length rows.now) result) ≡ start (length shares.now) (length rows.now) (at shares.now) (coord rows.now) }
+{
+    let mut all = [Row { cells: [0; 24] }; 12];
+    let m = rows.len();
+    for (i, row) in all[..m].iter_mut().enumerate() {
+        *row = first_row(i, shares, rows);
     }
+    all
 }

@@ -12,11 +12,7 @@ fn main(rt: HostRuntime) -> anyhow::Result<()> {
     let heap = rt.alloc();
     let mut card = Vec::new(heap);
     rt.stdin().take(ENOUGH).read_to_end(&mut card)?;
-    match run_card(heap, card.as_slice()) {
-        Ok(answers) => {
-            rt.stdout().write_all(answers.as_slice())?;
-            Ok(())
-        }
-        Err(_) => Err(anyhow!("no memory for this card")),
-    }
+    let answers = run_card(heap, card.as_slice()).map_err(|_| anyhow!("no memory for this card"))?;
+    rt.stdout().write_all(answers.as_slice())?;
+    Ok(())
 }

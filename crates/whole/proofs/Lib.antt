@@ -6,3 +6,4 @@ pub mod Lists
 pub mod Tests
 pub mod Divisors
 pub mod Multiples
+pub mod Chains

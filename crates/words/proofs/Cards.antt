@@ -1,6 +1,8 @@
 -- A card cut behind each byte 10.
-use Rattle.std.proofs.Common.{◌≡◌, ℕ, zero, suc, ◌+◌, ◌-◌, ◌<◌, ◌≤◌, eqb, List, [], ◌∷◌, length, get_or, take, drop, sym, refl, ap, ◌∙◌, subst, inl, inr, ⊎_elim, arith, length-drop, get_or-drop}
-use Rattle.std.proofs.lemmas.List.{drop-drop, take_all, drop_all}
+use Rattle.std.proofs.Common.{◌≡◌, ℕ, zero, suc, ◌+◌, ◌<◌, eqb, List, [], ◌∷◌, length, get_or, take, drop, add-one, Some, None, sym, refl, ap, ◌∙◌, subst, inl, inr, ⊎_elim, arith}
+use Rattle.std.proofs.lemmas.List.{take_all, drop_all}
+use Rattle.std.specs.List.{position}
+use Rattle.words.proofs.Cuts.{first_at, nowhere}
 use Rattle.std.proofs.lemmas.Bool.{cond-true, cond-false, eq-eqb, ne_eqb, cases_eq}
 use Rattle.words.specs.Words.{on_first}
 use Rattle.words.specs.Lines.{lines, Lacks, joined, Whole, Parted, Cuts}
@@ -21,25 +23,14 @@ lines_rest : (xs : List ℕ) → 0 < length xs → Lacks 10 xs → lines xs ≡ 
 lines_rest [] l h = absurd (omega arith)
 lines_rest (b ∷ bs) l h = lines_last b bs h
 
-pub lines_none : (card : List ℕ) (at : ℕ) → length card ≤ at → lines (drop at card) ≡ []
-lines_none card at l = ap lines (drop_all at card l)
+-- the first line of a card, and what is left
+pub line_inner : (card : List ℕ) (n : ℕ) → position (λ b. eqb b 10) card ≡ Some n → lines card ≡ take (n + 1) card ∷ lines (drop (n + 1) card)
+line_inner card n e = let h = first_at 10 card n e in rw add-one (lines_more card n h.0 h.2 h.1)
 
-module _ (card : List ℕ) (start end : ℕ) (low : start ≤ end) (none : (k : ℕ) → start ≤ k → k < end → get_or card k 0 ≡ 10 → ⊥) where
-  none_here : (k : ℕ) → k < end - start → get_or (drop start card) k 0 ≡ 10 → ⊥
-  none_here k l e = none (start + k) (omega arith) (omega arith) (sym (get_or-drop start card k 0) ∙ e)
-
-  pub line_inner : (next : ℕ) → next ≡ end + 1 → end < length card → get_or card end 0 ≡ 10 → lines (drop start card) ≡ take (next - start) (drop start card) ∷ lines (drop next card)
-  line_inner next is l e =
-      let back : start + (end - start) ≡ end = omega arith in
-      let long : suc (end - start) ≡ next - start = omega arith in
-      let after : start + suc (end - start) ≡ next = omega arith in
-      lines_more (drop start card) (end - start) (omega (arith, length-drop start card)) none_here (get_or-drop start card (end - start) 0 ∙ ap (λ n. get_or card n 0) back ∙ e)
-      ∙ (λ i. take (long i) (drop start card) ∷ lines ((drop-drop (suc (end - start)) start card ∙ ap (λ n. drop n card) after) i))
-
-  pub line_last : (next : ℕ) → next ≡ end → start < length card → length card ≡ end → lines (drop start card) ≡ take (next - start) (drop start card) ∷ lines (drop next card)
-  line_last next is some l =
-      lines_rest (drop start card) (omega (arith, length-drop start card)) (λ k kl. none_here k (omega (arith, length-drop start card)))
-      ∙ (λ i. sym (take_all (next - start) (drop start card) (omega (arith, length-drop start card))) i ∷ sym (lines_none card next (omega arith)) i)
+pub line_last : (card : List ℕ) → (length card ≡ 0 → ⊥) → position (λ b. eqb b 10) card ≡ None → lines card ≡ take (length card) card ∷ lines (drop (length card) card)
+line_last card some e =
+    lines_rest card (omega arith) (nowhere 10 card e)
+    ∙ (λ i. sym (take_all (length card) card (omega arith)) i ∷ sym (ap lines (drop_all (length card) card (omega arith))) i)
 
 -- the laws of the cut
 joined-on_first : (b : ℕ) (ws : List (List ℕ)) → joined (on_first b ws) ≡ b ∷ joined ws

@@ -1,11 +1,17 @@
 -- Bytes cut at a byte, and joined again.
-use Rattle.std.proofs.Common.{◌≡◌, ℕ, zero, suc, ◌+◌, ◌-◌, ◌<◌, ◌≤◌, Bool, true, false, cond, eqb, ◌⊎◌, List, [], ◌∷◌, ◌++◌, length, get_or, take, drop, MatchBool, sym, refl, ap, ◌∙◌, inl, inr, ⊎_elim, append_assoc, append-nil, arith, length-drop, get_or-drop}
-use borrow.Rule.Slice.PartMut.{post_of}
-use Rattle.std.proofs.lemmas.List.{drop-drop, take_all, take_more, drop_all, get_or_at, length_push, take_at, drop_at}
-use Rattle.std.proofs.lemmas.Bool.{cond-true, cond-false, eq-eqb, ne_eqb, cases_eq}
+use Rattle.std.proofs.Common.{◌≡◌, ℕ, zero, suc, ◌+◌, ◌<◌, ◌≤◌, Bool, true, false, cond, eqb, ltb, Some, None, List, [], ◌∷◌, ◌++◌, length, get_or, take, drop, add-one, lt-ltb, MatchBool, sym, refl, ap, ◌∙◌, subst, ⊎_elim, append_assoc, append-nil, arith, is_none}
+use Rattle.std.proofs.lemmas.List.{take_at, drop_at}
+use Rattle.std.proofs.lemmas.Bool.{cond-true, cond-false, eq-eqb, ne_eqb, eqb-true, eqb-false, cases_eq, cases_order}
+use Rattle.std.proofs.lemmas.List.Sums.{fails_before_first}
+use Rattle.std.proofs.lemmas.List.Quantifiers.{position-Some}
+use Rattle.std.specs.List.{position, position_or_len}
 use Rattle.std.specs.List.{AllByRecursion as All}
 use Rattle.words.specs.Words.{joined_by, spaced, on_first, pieces}
-use Rattle.words.specs.Lines.{Lacks}
+use Rattle.words.specs.Reading.{words_of}
+use Rattle.words.specs.Lines.{Lacks, TextOf}
+use Rattle.std.specs.Borrow.{Bor}
+use Rattle.std.specs.Option.{MatchOption}
+use Rattle.std.proofs.Common.{Option}
 
 -- the first piece ends at the first s
 pieces_more : (s : ℕ) (xs : List ℕ) (n : ℕ) → n < length xs → ((k : ℕ) → k < n → get_or xs k 0 ≡ s → ⊥) → get_or xs n 0 ≡ s → pieces s xs ≡ take n xs ∷ pieces s (drop (suc n) xs)
@@ -19,26 +25,28 @@ pieces_last s [] h = refl
 pieces_last s (b ∷ bs) h =
     cond-false (eqb b s) _ _ (ne_eqb b s (h 0 (omega arith))) ∙ ap (on_first b) (pieces_last s bs (λ k l. h (suc k) (omega arith)))
 
--- a place at or past the end is as good as the end
-pub from_start : (text : List ℕ) (at start : ℕ) → ((start ≡ at) ⊎ ((length text ≤ at) × (start ≡ length text))) → drop at text ≡ drop start text
-from_start text at start (inl e) = ap (λ n. drop n text) (sym e)
-from_start text at start (inr (l, e)) = drop_all at text l ∙ sym (drop_all start text (omega arith))
+-- what the place of the first s tells, and what it tells that there is none
+pub first_at : (s : ℕ) (xs : List ℕ) (n : ℕ) → position (λ b. eqb b s) xs ≡ Some n → (n < length xs) × (get_or xs n 0 ≡ s) × ((k : ℕ) → k < n → get_or xs k 0 ≡ s → ⊥)
+first_at s xs n e =
+    let h = position-Some (λ b. eqb b s) xs n 0 e in
+    (h.0, eqb-true _ s h.1, λ k l. eqb-false _ s (h.2 k l))
 
-module _ (text : List ℕ) (start end : ℕ) (low : start ≤ end) (none : (k : ℕ) → start ≤ k → k < end → get_or text k 0 ≡ 32 → ⊥) where
-  none_here : (k : ℕ) → k < end - start → get_or (drop start text) k 0 ≡ 32 → ⊥
-  none_here k l e = none (start + k) (omega arith) (omega arith) (sym (get_or-drop start text k 0) ∙ e)
+pub nowhere : (s : ℕ) (xs : List ℕ) → position (λ b. eqb b s) xs ≡ None → Lacks s xs
+nowhere s xs e k l = eqb-false _ s (fails_before_first (λ b. eqb b s) xs k 0 (past (position_or_len (λ b. eqb b s) xs) (length xs) e l))
+  where
+    past : (m n : ℕ) → cond (ltb m n) (Some m) None ≡ None → k < n → k < m
+    past m n e l =
+        ⊎_elim
+        (λ q. omega arith)
+        (λ o. ⊎_elim (λ h. absurd (let z : Some m ≡ None = sym (cond-true (ltb m n) (Some m) None (lt-ltb m n h)) ∙ e in cc)) (λ h. omega arith) o)
+        (cases_order m n)
 
-  pub word_inner : (next : ℕ) → next ≡ end + 1 → end < length text → get_or text end 0 ≡ 32 → pieces 32 (drop start text) ≡ take (end - start) (drop start text) ∷ pieces 32 (drop next text)
-  word_inner next is l e =
-      let back : start + (end - start) ≡ end = omega arith in
-      let after : start + suc (end - start) ≡ next = omega arith in
-      pieces_more 32 (drop start text) (end - start) (omega (arith, length-drop start text)) none_here (get_or-drop start text (end - start) 0 ∙ ap (λ n. get_or text n 0) back ∙ e)
-      ∙ ap (λ n. take (end - start) (drop start text) ∷ pieces 32 n) (drop-drop (suc (end - start)) start text ∙ ap (λ n. drop n text) after)
+-- the first word of a text, and the words behind it
+pub first_piece : (s : ℕ) (xs : List ℕ) (n : ℕ) → position (λ b. eqb b s) xs ≡ Some n → pieces s xs ≡ take n xs ∷ pieces s (drop (n + 1) xs)
+first_piece s xs n e = let h = first_at s xs n e in rw add-one (pieces_more s xs n h.0 h.2 h.1)
 
-  pub word_last : length text ≡ end → pieces 32 (drop start text) ≡ take (end - start) (drop start text) ∷ []
-  word_last l =
-      pieces_last 32 (drop start text) (λ k kl. none_here k (omega (arith, length-drop start text)))
-      ∙ ap (λ w. w ∷ []) (sym (take_all (end - start) (drop start text) (omega (arith, length-drop start text))))
+pub only_piece : (s : ℕ) (xs : List ℕ) → position (λ b. eqb b s) xs ≡ None → pieces s xs ≡ xs ∷ []
+only_piece s xs e = pieces_last s xs (nowhere s xs e)
 
 -- joining the pieces gives the bytes back
 joined-on_first : (s b : ℕ) (ws : List (List ℕ)) → joined_by s (on_first b ws) ≡ b ∷ joined_by s ws
@@ -58,9 +66,13 @@ pieces-some s (b ∷ bs) e = by (eqb b s) e
     by true e = omega (arith, ap length e)
     by false e = on_first-some b (pieces s bs) e
 
-pub ended_tells : (t : Bool) (ws : List (List ℕ)) → (ws ≡ [] → ⊥) → MatchBool t (cond t [] ws ≡ []) (cond t [] ws ≡ [] → ⊥)
-ended_tells true ws h = refl
-ended_tells false ws h = h
+-- no words are left exactly where no text is
+pub ended_tells : (t : Bool) (r : Option (Bor (List ℕ))) → t ≡ is_none r → MatchBool t (words_of r ≡ []) (words_of r ≡ [] → ⊥)
+ended_tells t r e = let P : Bool → Type 0 = λ b. MatchBool b (words_of r ≡ []) (words_of r ≡ [] → ⊥) in subst P (sym e) (told r)
+  where
+    told : (r : Option (Bor (List ℕ))) → MatchBool (is_none r) (words_of r ≡ []) (words_of r ≡ [] → ⊥)
+    told None = refl
+    told (Some text) = pieces-some 32 text.now
 
 joined-first : (s : ℕ) (ws : List (List ℕ)) → (ws ≡ [] → ⊥) → joined_by s ([] ∷ ws) ≡ s ∷ joined_by s ws
 joined-first s [] h = absurd (h refl)
@@ -84,17 +96,10 @@ pub pieces-joined : (s : ℕ) (w : List ℕ) (ws : List (List ℕ)) → Lacks s 
 pieces-joined s w [] h all = pieces_last s w h
 pieces-joined s w (v ∷ ws) h all = first_out s w (joined_by s (v ∷ ws)) h ∙ ap (λ l. w ∷ l) (pieces-joined s v ws all.0 all.1)
 
--- a list by its last element
-pub with_last : (xs : List ℕ) (b : ℕ) → 0 < length xs → get_or xs (length xs - 1) 0 ≡ b → xs ≡ take (length xs - 1 - 0) (drop 0 xs) ++ b ∷ []
-with_last xs b l e =
-    let n : length xs - 1 - 0 + 1 ≡ length xs = omega arith in
-    let m : length xs - 1 - 0 ≡ length xs - 1 = omega arith in
-    sym (take_all (length xs - 1 - 0 + 1) xs (omega arith)) ∙ take_more xs (length xs - 1 - 0) 0 (omega arith) ∙ ap (λ y. take (length xs - 1 - 0) xs ++ y ∷ []) (ap (λ k. get_or xs k 0) m ∙ e)
-
-pub last_byte : (xs front : List ℕ) (b : ℕ) → xs ≡ front ++ b ∷ [] → get_or xs (length xs - 1) 0 ≡ b
-last_byte xs front b e =
-    let long : length xs ≡ length front + 1 = ap length e ∙ length_push front b in
-    ap (λ l. get_or l (length xs - 1) 0) e ∙ get_or_at front b [] 0 (length xs - 1) (omega arith)
+-- the bytes before byte 10, or that the bytes do not end so
+pub text_told : (line : List ℕ) (r : Option (Bor (List ℕ))) → length line ≤ 1024 → MatchOption r ((front : List ℕ) → line ≡ front ++ 10 ∷ [] → ⊥) (λ x. line ≡ x.now ++ 10 ∷ []) → TextOf line r
+text_told line (Some text) s h = record { whole = h; short = s }
+text_told line None s h = λ text l. h text l.whole
 
 -- bytes above the space
 pub lacks_all : (w : List ℕ) → All (λ b. 32 < b) w → Lacks 32 w
@@ -112,8 +117,5 @@ joined-spaced w [] = sym (append-nil w)
 joined-spaced w (v ∷ ws) = ap (λ l. w ++ 32 ∷ l) (joined-spaced v ws)
 
 -- what a copy to the front leaves
-pub placed : (put line before : List ℕ) (n : ℕ) → put ≡ line → n ≡ length line → (take n (put ++ post_of 0 (n - 0) before) ≡ line) × (drop n (put ++ post_of 0 (n - 0) before) ≡ drop n before)
-placed put line before n e l =
-    let long : length put ≡ n = ap length e ∙ sym l in
-    let none : n - 0 ≡ n = omega arith in
-    (take_at put _ n long ∙ e, drop_at put _ n long ∙ ap (λ k. drop k before) none)
+pub placed : (put line rest : List ℕ) → put ≡ line → (take (length line) (put ++ rest) ≡ line) × (drop (length line) (put ++ rest) ≡ rest)
+placed put line rest e = let long : length put ≡ length line = ap length e in (take_at put rest _ long ∙ e, drop_at put rest _ long)

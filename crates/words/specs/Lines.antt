@@ -13,7 +13,7 @@ lines (b ∷ bs) = cond (b == 10) ((b ∷ []) ∷ lines bs) (on_first b (lines b
 
 -- the part of the card that was not yet cut into lines
 abbrev pub uncut : Lines → List ℕ
-uncut r = drop r.at r.card.now
+uncut r = r.rest.now
 
 -- the first line was cut off, or there was none
 abbrev pub CutOff : List ℕ → List ℕ → Option (Bor (List ℕ)) → Type 0

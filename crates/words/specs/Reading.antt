@@ -1,5 +1,5 @@
 -- What reading a word, or looking ahead at one, tells.
-use Rattle.std.specs.Prelude.{◌≡◌, ℕ, Bool, false, cond, List, [], ◌∷◌, drop, Some, None, Option}
+use Rattle.std.specs.Prelude.{◌≡◌, ℕ, Bool, false, List, [], ◌∷◌, Some, None, Option}
 use Rattle.std.specs.Borrow.{Bor}
 use Rattle.words.specs.declared.word.Place.{Place}
 use Rattle.words.specs.declared.word.Word.{Word}
@@ -7,23 +7,28 @@ use Rattle.words.specs.declared.word.Reader.{Reader}
 use Rattle.words.specs.Words.{pieces}
 use Rattle.words.specs.Sorts.{sort, sort_of, text_of}
 
--- the words of a text that are still to be read
-abbrev pub pending : List ℕ → Place → List (List ℕ)
-pending text p = cond p.ended [] (pieces 32 (drop p.at text))
+-- the words of a text with one space between each two, or none
+abbrev pub words_of : Option (Bor (List ℕ)) → List (List ℕ)
+words_of None = []
+words_of (Some text) = pieces 32 text.now
+
+-- the words that are still to be read
+abbrev pub pending : Place → List (List ℕ)
+pending p = words_of p.rest
 
 -- the bytes of the first of them were read, or there were none
-abbrev pub Took : List ℕ → Place → Place → Option (Bor (List ℕ)) → Type 0
-Took text before after None = (pending text before ≡ []) × (after ≡ before)
-Took text before after (Some w) = (pending text before ≡ w.now ∷ pending text after) × (after.first ≡ false)
+abbrev pub Took : Place → Place → Option (Bor (List ℕ)) → Type 0
+Took before after None = (pending before ≡ []) × (after ≡ before)
+Took before after (Some w) = (pending before ≡ w.now ∷ pending after) × (after.first ≡ false)
 
 -- the first of them was read, sorted by its first byte and its place on the line
-abbrev pub TookWord : List ℕ → Place → Place → Option Word → Type 0
-TookWord text before after None = (pending text before ≡ []) × (after ≡ before)
-TookWord text before after (Some w) = (pending text before ≡ text_of w ∷ pending text after) × (after.first ≡ false) × (sort w ≡ sort_of before.first (text_of w))
+abbrev pub TookWord : Place → Place → Option Word → Type 0
+TookWord before after None = (pending before ≡ []) × (after ≡ before)
+TookWord before after (Some w) = (pending before ≡ text_of w ∷ pending after) × (after.first ≡ false) × (sort w ≡ sort_of before.first (text_of w))
 
 -- the words that a reader has still to read
 abbrev pub left : Reader → List (List ℕ)
-left r = pending r.text.now r.place
+left r = pending r.place
 
 -- whether the next word is the line's first
 abbrev pub starts : Reader → Bool

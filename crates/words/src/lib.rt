@@ -9,4 +9,4 @@ mod word;
 pub use fault::Fault;
 pub use lines::{Lines, laws_of_cards, line_text, place_line};
 pub use number::{append_number, parse_number};
-pub use word::{Reader, Word, same_bytes};
+pub use word::{Reader, Word, place_of};

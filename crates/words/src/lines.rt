@@ -3,7 +3,7 @@ ghost use Rattle.std.specs.Prelude.{◌≡◌};
 ghost use Rattle.words.specs.Lines.{lines, uncut, CutOff, TextOf, Placed, Cuts};
 
 use super::fault::Fault;
-use super::word::byte_from;
+use super::word::place_of;
 
 // A line has at most so many bytes.
 const LINE: usize = 1024;
@@ -11,8 +11,7 @@ const LINE: usize = 1024;
 // The lines of a card that are still to be read.
 #[derive(Drop)]
 pub struct Lines<'a> {
-    card: &'a [u8],
-    at: usize,
+    rest: &'a [u8],
 }
 
 impl<'a> Lines<'a> {
@@ -20,20 +19,23 @@ impl<'a> Lines<'a> {
     pub fn new(card: &'a [u8]) -> Lines<'a>
         ensures { uncut result ≡ card.now }
     {
-        Lines { card, at: 0 }
+        Lines { rest: card }
     }
 
     // The next line with its byte 10, or what is left of the card where no byte 10 follows; none at the end.
     pub fn next(&mut self) -> Option<&'a [u8]>
         ensures { CutOff (uncut self.old) (uncut self.new) result }
     {
-        if self.at >= self.card.len() {
+        if self.rest.is_empty() {
             return None;
         }
-        let start = self.at;
-        let end = byte_from(self.card, start, b'\n');
-        self.at = if end < self.card.len() { end + 1 } else { end };
-        Some(&self.card[start..self.at])
+        let size = match place_of(b'\n', self.rest) {
+            Some(end) => end + 1,
+            None => self.rest.len(),
+        };
+        let (line, rest) = self.rest.split_at(size);
+        self.rest = rest;
+        Some(line)
     }
 }
 
@@ -41,14 +43,10 @@ impl<'a> Lines<'a> {
 pub fn line_text<'a>(line: &'a [u8]) -> Option<&'a [u8]>
     ensures { TextOf line.now result }
 {
-    let size = line.len();
-    if size == 0 || size > LINE {
+    if line.len() > LINE {
         return None;
     }
-    if line[size - 1] != b'\n' {
-        return None;
-    }
-    Some(&line[0..size - 1])
+    line.strip_suffix(b"\n")
 }
 
 // Copies a line to the front of `out`, and tells its size; refused if it has more than 1,024 bytes or `out` is too short.
@@ -56,19 +54,14 @@ pub fn place_line(line: &[u8], out: &mut [u8]) -> Result<usize, Fault>
     ensures { Placed line.now out.old out.new result }
 {
     let size = line.len();
-    if size > LINE {
+    if size > LINE || size > out.len() {
         return Err(Fault::Form);
     }
-    if size > out.len() {
-        return Err(Fault::Form);
-    }
-    out[0..size].copy_from_slice(line);
+    out[..size].copy_from_slice(line);
     Ok(size)
 }
 
 // The lines of every card, joined, are the card; each ends at its only byte 10, or is the last and has none.
-pub fn laws_of_cards() -> u8
+pub fn laws_of_cards()
     ensures { Cuts }
-{
-    0
-}
+{}

@@ -1,52 +1,23 @@
 // Words: parts of a line, with one space between each two.
-ghost use Rattle.std.specs.Prelude.{◌≡◌, ℕ, ◌<◌, ◌≤◌, true, [], length, Decides, MatchBool, ◌≢◌, slice_index};
+ghost use Rattle.std.specs.Prelude.{◌≡◌, ◌==◌, true, [], position, MatchBool, ◌≢◌};
 ghost use Rattle.words.specs.Words.{pieces};
 ghost use Rattle.words.specs.Sorts.{text_of, sort, sort_of};
 ghost use Rattle.words.specs.Reading.{Took, TookWord, Next, First, left, starts};
 
-// How far a reader has come: the next word begins at `at`, and is the line's first or not, unless the last one was read.
+// The place of the first such byte of a text.
+pub fn place_of(byte: u8, text: &[u8]) -> Option<usize>
+    ensures { result ≡ position (λ b. b == byte) text.now }
+{
+    text.iter().position(|b| *b == byte)
+}
+
+// How far a reader has come.
 #[derive(Clone, Copy)]
-pub struct Place {
-    at: usize,
+pub struct Place<'a> {
+    // the words that are still to be read; none once the last was read
+    rest: Option<&'a [u8]>,
+    // whether the next of them is the line's first
     first: bool,
-    ended: bool,
-}
-
-// The first such byte from `start` on, or the end.
-pub(crate) fn byte_from(text: &[u8], start: usize, byte: u8) -> usize
-    requires { start ≤ length text.now }
-    ensures low { start ≤ result }
-    ensures high { result ≤ length text.now }
-    ensures none { (k : ℕ) → start ≤ k → k < result → slice_index text.now k ≢ byte }
-    ensures stops { result < length text.now → slice_index text.now result ≡ byte }
-{
-    let mut end = start;
-    while end < text.len() && text[end] != byte {
-        end += 1;
-    }
-    end
-}
-
-// The next word's bytes, and the place behind them.
-fn next_bytes<'a>(text: &'a [u8], place: &mut Place) -> Option<&'a [u8]>
-    ensures { Took text.now place.old place.new result }
-{
-    if place.ended {
-        return None;
-    }
-    let start = if place.at < text.len() {
-        place.at
-    } else {
-        text.len()
-    };
-    let end = byte_from(text, start, b' ');
-    place.first = false;
-    if end < text.len() {
-        place.at = end + 1;
-    } else {
-        place.ended = true;
-    }
-    Some(&text[start..end])
 }
 
 // A word of a line. Each case holds the part of the card that the word was read from.
@@ -60,13 +31,6 @@ pub enum Word<'a> {
     Number(&'a [u8]),
     // any other word: at best a mark of a grip's cell
     Cell(&'a [u8]),
-}
-
-// Whether two words have the same bytes.
-pub fn same_bytes(a: &[u8], b: &[u8]) -> bool
-    ensures { Decides result (a.now ≡ b.now) }
-{
-    a == b
 }
 
 // The word that these bytes are, by the first of them and by whether the word is the line's first.
@@ -85,24 +49,42 @@ fn sort_word<'a>(bytes: &'a [u8], first: bool) -> Word<'a>
     }
 }
 
-// The next word, and the place behind it.
-fn next_word<'a>(text: &'a [u8], place: &mut Place) -> Option<Word<'a>>
-    ensures { TookWord text.now place.old place.new result }
-{
-    let first = place.first;
-    let Some(bytes) = next_bytes(text, place) else {
-        return None;
-    };
-    Some(sort_word(bytes, first))
+impl<'a> Place<'a> {
+    // The next word's bytes, and the place behind them.
+    fn next_bytes(&mut self) -> Option<&'a [u8]>
+        ensures { Took self.old self.new result }
+    {
+        let rest = self.rest?;
+        self.first = false;
+        match place_of(b' ', rest) {
+            Some(end) => {
+                self.rest = Some(&rest[end + 1..]);
+                Some(&rest[..end])
+            }
+            None => {
+                self.rest = None;
+                Some(rest)
+            }
+        }
+    }
+
+    // The next word, and the place behind it.
+    fn next_word(&mut self) -> Option<Word<'a>>
+        ensures { TookWord self.old self.new result }
+    {
+        let first = self.first;
+        let bytes = self.next_bytes()?;
+        Some(sort_word(bytes, first))
+    }
 }
 
 // A place that is put back when the guard ends, on every way out.
-struct Ahead<'p> {
-    place: &'p mut Place,
-    back: Place,
+struct Ahead<'p, 'a> {
+    place: &'p mut Place<'a>,
+    back: Place<'a>,
 }
 
-impl Drop for Ahead<'_> {
+impl Drop for Ahead<'_, '_> {
     fn drop(self)
         ensures { self.exit.0.now ≡ self.entry.back }
     {
@@ -114,8 +96,7 @@ impl Drop for Ahead<'_> {
 // Reads the words of a line.
 #[derive(Drop)]
 pub struct Reader<'a> {
-    text: &'a [u8],
-    place: Place,
+    place: Place<'a>,
 }
 
 impl<'a> Reader<'a> {
@@ -125,11 +106,9 @@ impl<'a> Reader<'a> {
         ensures first { starts result ≡ true }
     {
         Reader {
-            text,
             place: Place {
-                at: 0,
+                rest: Some(text),
                 first: true,
-                ended: false,
             },
         }
     }
@@ -138,14 +117,14 @@ impl<'a> Reader<'a> {
     pub fn next(&mut self) -> Option<Word<'a>>
         ensures { Next self.old self.new result }
     {
-        next_word(self.text, &mut self.place)
+        self.place.next_word()
     }
 
     // Whether the last word was read.
     pub fn at_end(&self) -> bool
         ensures { MatchBool result (left self.now ≡ []) (left self.now ≢ []) }
     {
-        self.place.ended
+        self.place.rest.is_none()
     }
 
     // Looks ahead at the next word; the place is put back.
@@ -157,6 +136,6 @@ impl<'a> Reader<'a> {
             back: self.place,
             place: &mut self.place,
         };
-        next_word(self.text, ahead.place)
+        ahead.place.next_word()
     }
 }

@@ -66,9 +66,6 @@ pub grip_on-bonds : (s : rules.Sheet) (roles : List Role) (rs : List Relation) (
 grip_on-bonds s roles rs qs h = grip_on-same s.count roles (bonds s rs qs) (bare s.count (take s.bound rs))
     (map-tab s.bound (λ i. bond s.count (relation_at rs i).coefficients (get_or qs i [])) (λ (b : Bond). b.coefs) ∙ sym front)
   where
-    coefs_of : Relation → List ℤ
-    coefs_of r = take s.count r.coefficients
-
     listed : take s.bound rs ≡ tab s.bound (relation_at rs)
     listed =
         sym (tab_of (take s.bound rs) (record { coefficients = []; mark = Idle }))

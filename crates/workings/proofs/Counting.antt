@@ -1,7 +1,7 @@
 -- The relations that count, taken one after the other.
-use Rattle.std.proofs.Common.{◌≡◌, ℕ, zero, suc, ◌+◌, ◌<◌, ◌≤◌, Bool, true, false, cond, not, ◌&&◌, ltb, List, [], ◌∷◌, ◌++◌, map, length, get_or, take, drop, set, ℤ, pos, Ok, Err, sym, refl, ap, ◌∙◌, not-suc-le-zero, arith}
-use Rattle.std.proofs.lemmas.List.{append-nil, get_or-take, map_more, map_push, map-append, take_more_set, take_all, take-append-drop, length-map, length-append, length-take-le}
-use Rattle.std.proofs.lemmas.Bool.{lt-ltb, le-ltb}
+use Rattle.std.proofs.Common.{◌≡◌, ℕ, zero, suc, ◌+◌, ◌<◌, Bool, true, false, cond, not, ◌&&◌, ltb, List, [], ◌∷◌, ◌++◌, map, length, get_or, take, drop, ℤ, pos, Ok, Err, sym, refl, ap, ◌∙◌, not-suc-le-zero, arith}
+use Rattle.std.proofs.lemmas.List.{append-nil, get_or-take, map_more, map_push, map-append, take-append-drop, length-map, length-append}
+use Rattle.std.proofs.lemmas.Bool.{lt-ltb}
 use Rattle.records.specs.declared.refusal.Refusal.TheVariants.{Crowded}
 use Rattle.records.specs.declared.relation.Mark.TheVariants.{Idle}
 use Rattle.records.specs.declared.relation.Relation.{Relation}
@@ -18,6 +18,9 @@ pub counts-take : (n : ℕ) (roles : List Role) (cs : List ℤ) → counts n rol
 counts-take n roles cs = any_ext n _ _ (λ s l. ap (λ (z : ℤ). not (is_held (role roles s)) && nonzero z) (get_or-take n cs s (pos 0) l))
 
 module _ (n : ℕ) (roles : List Role) where
+  pub same_length : (bs : List Bond) (rows : List (List ℤ)) → map (take n) rows ≡ map (λ b. b.coefs) bs → length rows ≡ length bs
+  same_length bs rows e = sym (length-map rows (take n)) ∙ ap length e ∙ length-map bs (λ (b : Bond). b.coefs)
+
   counted-append : (xs ys : List Bond) → counted n roles (xs ++ ys) ≡ counted n roles xs ++ counted n roles ys
   counted-append [] ys = refl
   counted-append (x ∷ xs) ys = by (counts n roles x.coefs) (counted-append xs ys)
@@ -38,26 +41,21 @@ module _ (n : ℕ) (roles : List Role) where
         ∙ counted-append (bare n (take i rs)) (bond n (relation_at rs i).coefficients [] ∷ [])
         ∙ ap (λ (c : Bool). counted n roles (bare n (take i rs)) ++ cond c (bond n (relation_at rs i).coefficients [] ∷ []) []) (counts-take n roles (relation_at rs i).coefficients ∙ sym e)
 
-    module _ (rows : List (List ℤ)) (m : ℕ) (so : map (take n) (take m rows) ≡ map (λ b. b.coefs) (counted n roles (bare n (take i rs)))) where
-      pub chosen-left : false ≡ counts n roles (relation_at rs i).coefficients → map (take n) (take m rows) ≡ map (λ b. b.coefs) (counted n roles (bare n (take (i + 1) rs)))
+    module _ (rows : List (List ℤ)) (so : map (take n) rows ≡ map (λ b. b.coefs) (counted n roles (bare n (take i rs)))) where
+      pub chosen-left : false ≡ counts n roles (relation_at rs i).coefficients → map (take n) rows ≡ map (λ b. b.coefs) (counted n roles (bare n (take (i + 1) rs)))
       chosen-left e = so ∙ ap (map (λ (b : Bond). b.coefs)) (sym (counted_more false e ∙ append-nil (counted n roles (bare n (take i rs)))))
 
-      pub chosen_more : true ≡ counts n roles (relation_at rs i).coefficients → m < length rows
-          → map (take n) (take (m + 1) (set rows m (relation_at rs i).coefficients)) ≡ map (λ b. b.coefs) (counted n roles (bare n (take (i + 1) rs)))
+      pub chosen_more : true ≡ counts n roles (relation_at rs i).coefficients → map (take n) (rows ++ (relation_at rs i).coefficients ∷ []) ≡ map (λ b. b.coefs) (counted n roles (bare n (take (i + 1) rs)))
       unfolding next
-      chosen_more e l =
-          ap (map (take n)) (take_more_set rows m (relation_at rs i).coefficients l)
-          ∙ map_push (take n) (take m rows) (relation_at rs i).coefficients
+      chosen_more e =
+          map_push (take n) rows (relation_at rs i).coefficients
           ∙ ap (λ xs. xs ++ take n (relation_at rs i).coefficients ∷ []) so
           ∙ sym (ap (map (λ (b : Bond). b.coefs)) (counted_more true e) ∙ map_push (λ (b : Bond). b.coefs) (counted n roles (bare n (take i rs))) (bond n (relation_at rs i).coefficients []))
 
-      many : m ≤ length rows → length (counted n roles (bare n (take i rs))) ≡ m
-      many l = sym (length-map (counted n roles (bare n (take i rs))) (λ (b : Bond). b.coefs)) ∙ ap length (sym so) ∙ length-map (take m rows) (take n) ∙ length-take-le m rows l
-
-      pub crowded : true ≡ counts n roles (relation_at rs i).coefficients → m ≡ 12 → length rows ≡ 12
+      pub crowded : true ≡ counts n roles (relation_at rs i).coefficients → length rows ≡ 12
           → Err Crowded ≡ guard (ltb 12 (length (counted n roles (bare n rs)))) Crowded (Ok (map (λ b. b.coefs) (counted n roles (bare n rs))))
       unfolding next
-      crowded e twelve rows12 =
+      crowded e twelve =
           ap (λ (b : Bool). guard b Crowded (Ok (map (λ (b : Bond). b.coefs) (counted n roles (bare n rs))))) (sym (lt-ltb 12 (length (counted n roles (bare n rs))) more))
         where
           front : length (counted n roles (bare n (take (i + 1) rs))) ≡ length (counted n roles (bare n (take i rs))) + 1
@@ -72,27 +70,9 @@ module _ (n : ℕ) (roles : List Role) where
           more : 12 < length (counted n roles (bare n rs))
           more =
               let a = ap length whole ∙ length-append (counted n roles (bare n (take (i + 1) rs))) (counted n roles (bare n (drop (i + 1) rs))) in
-              let b = many (omega arith) in
+              let b = same_length (counted n roles (bare n (take i rs))) rows so in
               let c = front in
               omega arith
-
-pub chosen-many : (n : ℕ) (roles : List Role) (rs : List Relation) (i : ℕ) (rows : List (List ℤ)) (m : ℕ)
-    → map (take n) (take m rows) ≡ map (λ b. b.coefs) (counted n roles (bare n (take i rs))) → length rs ≤ i → m ≤ 12 → length rows ≡ 12 → m ≡ length (counted n roles (bare n rs))
-chosen-many n roles rs i rows m so h few rows12 =
-    sym (length-take-le m rows (omega arith)) ∙ sym (length-map (take m rows) (take n)) ∙ ap length so ∙ length-map (counted n roles (bare n (take i rs))) (λ (b : Bond). b.coefs)
-    ∙ ap (λ xs. length (counted n roles (bare n xs))) (take_all i rs h)
-
-pub chosen_all : (n : ℕ) (roles : List Role) (rs : List Relation) (i : ℕ) (rows : List (List ℤ)) (m : ℕ)
-    → map (take n) (take m rows) ≡ map (λ b. b.coefs) (counted n roles (bare n (take i rs))) → length rs ≤ i → m ≤ 12 → length rows ≡ 12
-    → Ok (map (take n) (take m rows)) ≡ guard (ltb 12 (length (counted n roles (bare n rs)))) Crowded (Ok (map (λ b. b.coefs) (counted n roles (bare n rs))))
-chosen_all n roles rs i rows m so h few rows12 =
-    ap Ok all ∙ ap (λ (b : Bool). guard b Crowded (Ok (map (λ (b : Bond). b.coefs) (counted n roles (bare n rs))))) (sym (le-ltb 12 (length (counted n roles (bare n rs))) size))
-  where
-    all : map (take n) (take m rows) ≡ map (λ b. b.coefs) (counted n roles (bare n rs))
-    all = so ∙ ap (λ xs. map (λ (b : Bond). b.coefs) (counted n roles (bare n xs))) (take_all i rs h)
-
-    size : length (counted n roles (bare n rs)) ≤ 12
-    size = let e = chosen-many n roles rs i rows m so h few rows12 in omega arith
 
 -- what holds of each relation holds of each that counts
 pub counted-each : (P : Bond → Type 0) (n : ℕ) (roles : List Role) (xs : List Bond) → ((i : ℕ) → i < length xs → P (get_or xs i no_bond)) → (i : ℕ) → i < length (counted n roles xs) → P (get_or (counted n roles xs) i no_bond)

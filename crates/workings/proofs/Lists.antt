@@ -1,7 +1,6 @@
 -- Parts of lists by index.
-use Rattle.std.proofs.Common.{◌≡◌, ℕ, ◌+◌, ◌-◌, ◌<◌, ◌≤◌, List, length, take, drop, ℤ, pos, nat_abs, sym, ap, ◌∙◌, ⊎_elim, arith}
-use Rattle.std.proofs.lemmas.List.{get_or-take, get_or-drop, get_or_past, length-take, length-take-le, length-drop}
-use Rattle.std.proofs.lemmas.Bool.{cases_lt}
+use Rattle.std.proofs.Common.{◌≡◌, ℕ, ◌+◌, ◌<◌, ◌≤◌, List, length, take, drop, ℤ, pos, sym, ap, ◌∙◌, arith}
+use Rattle.std.proofs.lemmas.List.{get_or-take, get_or-drop, length-take-le, length-drop}
 use Rattle.whole.specs.Lists.{tab, at}
 use Rattle.whole.proofs.Lists.{tab_ext, tab_of}
 
@@ -13,13 +12,3 @@ slice_tab n k xs f h e =
   where
     long : length (take n (drop k xs)) ≡ n
     long = length-take-le n (drop k xs) (let d = length-drop k xs in omega arith)
-
--- what bounds the first n numbers bounds the list of them
-pub front_within : (most n : ℕ) (xs : List ℤ) → ((s : ℕ) → s < n → nat_abs (at xs s) ≤ most) → (s : ℕ) → nat_abs (at (take (n - 0) xs) s) ≤ most
-front_within most n xs h s =
-    let z : n - 0 ≡ n = omega arith in
-    let e = ap (λ (k : ℕ). nat_abs (at (take k xs) s)) z in
-    ⊎_elim
-    (λ l. let q = ap nat_abs (get_or-take n xs s (pos 0) l) in let b = h s l in omega arith)
-    (λ l. let q = ap nat_abs (get_or_past (take n xs) s (pos 0) (let k = length-take n xs in omega arith)) in omega arith)
-    (cases_lt s n)

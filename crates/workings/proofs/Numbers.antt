@@ -1,6 +1,5 @@
 -- What is read from workings, as its bits show it.
-use Rattle.std.proofs.Common.{◌≡◌, ℕ, ◌+◌, ◌≤◌, T, [], ℤ, pos, negsuc, nat_abs, ◌≤ℤ◌, sym, refl, ap, ◌∙◌, subst, arith, w64, Fits, to_z, of_z}
-use lib.Signed.{non_neg}
+use Rattle.std.proofs.Common.{◌≡◌, ℕ, ◌+◌, ◌≤◌, [], ℤ, pos, negsuc, nat_abs, ◌≤ℤ◌, refl, ap, ◌∙◌, arith, w64, to_z, of_z}
 use borrow.Author.Differences.{ints}
 use Rattle.std.proofs.lemmas.List.{get_or_past}
 use Rattle.std.proofs.lemmas.Int.{to_z-of_z}
@@ -15,13 +14,6 @@ use Rattle.table.specs.Tables.{cell, grid}
 module _ (z : ℤ) (small : nat_abs z ≤ table_limit) (least : pos 0 ≤ℤ z) where
   back : to_z w64 (of_z w64 z) ≡ z
   back = to_z-of_z w64 z (fits z (omega arith))
-
-  pub casts : T (non_neg (to_z w64 (of_z w64 z))) × Fits w64 (nat_abs (to_z w64 (of_z w64 z)))
-  casts = subst (λ (x : ℤ). T (non_neg x) × Fits w64 (nat_abs x)) (sym back) (upright z least, record { fits = omega arith })
-    where
-      upright : (x : ℤ) → pos 0 ≤ℤ x → T (non_neg x)
-      upright (pos n) h = tt
-      upright (negsuc n) h = absurd (omega (arith, ints))
 
   pub reads : (pos (nat_abs (to_z w64 (of_z w64 z))) ≡ z) × (nat_abs (to_z w64 (of_z w64 z)) ≤ table_limit)
   reads = (ap (λ (x : ℤ). pos (nat_abs x)) back ∙ size z least, (let e = ap nat_abs back in omega arith))

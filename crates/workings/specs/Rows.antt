@@ -1,7 +1,7 @@
 -- The coefficients that a table is made of.
 use Rattle.std.specs.Prelude.{ℕ, List, map, take, ℤ}
-use Rattle.workings.specs.declared.choosing.Chosen.{Chosen}
+use Rattle.arrayvec.specs.ArrayVec.{ArrayVec}
 
 -- The first n coefficients of each relation chosen.
-abbrev pub coefficient_rows : ℕ → Chosen → List (List ℤ)
-coefficient_rows n c = map (take n) (take c.m c.rows)
+abbrev pub coefficient_rows : ℕ → ArrayVec (List ℤ) → List (List ℤ)
+coefficient_rows n chosen = map (take n) chosen.items

@@ -1,4 +1,5 @@
 ghost use Rattle.std.specs.Prelude.{◌≡◌, ◌≤◌, map, length, IfOk, Ok, nat_lt};
+ghost use Rattle.arrayvec.specs.ArrayVec.{array_vec_len};
 ghost use Rattle.records.specs.declared.refusal.Refusal.TheVariants.{Crowded};
 ghost use Rattle.records.specs.Outcomes.{guard, image};
 ghost use Rattle.rules.specs.Sheets.{bad_coefs, relation_at};
@@ -6,49 +7,38 @@ ghost use Rattle.whole.specs.Tests.{any};
 ghost use Rattle.workings.specs.Chosen.{countable};
 ghost use Rattle.workings.specs.Rows.{coefficient_rows};
 
+use arrayvec::ArrayVec;
 use records::{Refusal, Relation, Role};
 use roles::relation_counts;
-use table::some_above;
+use whole::some_above;
 
 const MOST_COEFFICIENT: u64 = 1000;
 
 const MOST_COUNTED: usize = 12;
 
-// The coefficients of the relations that count, in bound order.
-#[derive(Clone, Copy)]
-pub(crate) struct Chosen {
-    pub(crate) rows: [[i64; 48]; 12],
-    pub(crate) m: usize,
-}
-
 // Whether a relation has a coefficient out of range.
 pub(crate) fn some_out_of_range(relations: &[Relation], n: usize) -> bool
     ensures { result ≡ any (length relations.now) (λ i. bad_coefs n (relation_at relations.now i).coefficients) }
 {
-    for i in 0..relations.len() {
-        if some_above(&relations[i].coefficients, n, MOST_COEFFICIENT) {
-            return true;
-        }
-    }
-    false
+    relations.iter().any(|relation| some_above(&relation.coefficients, n, MOST_COEFFICIENT))
 }
 
-// The relations that count by the roles, unless they are more than 12.
-pub(crate) fn choose(relations: &[Relation], roles: &[Role]) -> Result<Chosen, Refusal>
-    requires { length roles.now ≤ 48 }
+// The coefficients of the relations that count by the roles, in bound order, unless they are more than 12.
+pub(crate) fn choose(
+    relations: &[Relation],
+    roles: &[Role],
+) -> Result<ArrayVec<[i64; 48], MOST_COUNTED>, Refusal>
     ensures rows { image (coefficient_rows (length roles.now)) result ≡ guard (nat_lt 12 (length (countable relations.now roles.now))) Crowded (Ok (map (λ b. b.coefs) (countable relations.now roles.now))) }
-    ensures many { IfOk result (λ c. c.m ≡ length (countable relations.now roles.now)) }
+    ensures many { IfOk result (λ chosen. array_vec_len chosen ≡ length (countable relations.now roles.now)) }
 {
-    let mut rows = [[0; 48]; 12];
-    let mut m = 0;
-    for i in 0..relations.len() {
-        if relation_counts(&relations[i].coefficients, roles) {
-            if m == MOST_COUNTED {
+    let mut chosen = ArrayVec::new();
+    for relation in relations {
+        if relation_counts(&relation.coefficients, roles) {
+            if chosen.is_full() {
                 return Err(Refusal::Crowded);
             }
-            rows[m] = relations[i].coefficients;
-            m += 1;
+            chosen.push(relation.coefficients);
         }
     }
-    Ok(Chosen { rows, m })
+    Ok(chosen)
 }

@@ -30,14 +30,13 @@ impl Workings {
             return Err(Refusal::Roles);
         }
         let chosen = choose(relations, roles)?;
-        let m = chosen.m;
         let shares = shares_of(roles);
-        let table = Table::finished(count, m, &shares, &chosen.rows)?;
+        let table = Table::finished(&shares[..count], &chosen)?;
         Ok(Workings {
             table,
             roles: kept(roles),
             shares,
-            m,
+            m: chosen.len(),
             count,
         })
     }

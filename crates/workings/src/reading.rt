@@ -29,7 +29,7 @@ impl Workings {
         ensures value { result.now ≡ (shown self.now).roles }
         ensures long { length result.now ≡ (shown self.now).count }
     {
-        &self.roles[0..self.count]
+        &self.roles[..self.count]
     }
 
     // The v(s), one to a parameter.
@@ -38,7 +38,7 @@ impl Workings {
         ensures long { length result.now ≡ (shown self.now).count }
         ensures most { (s : ℕ) → unsigned_abs (at result.now s) ≤ 12 }
     {
-        &self.shares[0..self.count]
+        &self.shares[..self.count]
     }
 
     // v(s), and 0 where there is no parameter s.
@@ -72,7 +72,7 @@ impl Workings {
             let cells = &rows[i].cells[..];
             &cells[self.m..self.m + self.m]
         } else {
-            &self.shares[0..0]
+            &[]
         }
     }
 }

@@ -8,9 +8,8 @@ fn share_of(role: Role) -> i64
     ensures { result ≡ share role }
 {
     match role {
-        Role::Held => 0,
-        Role::Pulled => 0,
-        Role::Loose(weight) => { if weight == 0 { 0 } else { 12 / weight } }
+        Role::Held | Role::Pulled | Role::Loose(0) => 0,
+        Role::Loose(weight) => 12 / weight,
     }
 }
 
@@ -20,8 +19,8 @@ pub(crate) fn shares_of(roles: &[Role]) -> [i64; 48]
     ensures { take (length roles.now) result ≡ shares (length roles.now) roles.now }
 {
     let mut all = [0; 48];
-    for s in 0..roles.len() {
-        all[s] = share_of(roles[s]);
+    for (s, role) in roles.iter().enumerate() {
+        all[s] = share_of(*role);
     }
     all
 }
@@ -32,8 +31,7 @@ pub(crate) fn kept(roles: &[Role]) -> [Role; 48]
     ensures { take (length roles.now) result ≡ roles.now }
 {
     let mut all = [Role::Held; 48];
-    for s in 0..roles.len() {
-        all[s] = roles[s];
-    }
+    let count = roles.len();
+    all[..count].copy_from_slice(roles);
     all
 }

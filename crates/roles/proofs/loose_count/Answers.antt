@@ -1,23 +1,12 @@
-use Rattle.std.proofs.Common.{ℕ, ◌+◌, Bool, sym, ap, ◌∙◌, arith}
-use Rattle.whole.proofs.Tests.{tally-≤}
-use Rattle.rules.specs.Gripping.{role, is_loose}
-use Rattle.roles.proofs.Tallies.{tally_more, tally-same}
+use Rattle.std.proofs.Common.{rules, ◌≡◌, ◌∙◌}
+use Rattle.std.specs.List.{count_by}
+use Rattle.whole.proofs.Chains.{tally_list}
+use Rattle.records.specs.declared.role.Role.TheVariants.{Held}
+use Rattle.rules.specs.Gripping.{is_loose}
 use Rattle.roles.proofs.loose_count.Goals as goal
-use Rattle.roles.proofs.loose_count.Goals.{then-is_loose, else-is_loose}
 
-pub overflow_add-n : goal.overflow_add-n
-overflow_add-n c =
-    let i = c.loop-role.role-index in
-    let few = tally-≤ i (λ s. is_loose (role c.args.roles.now s)) in
-    let short = c.loop-role-test.true in
-    let fits = c.well_formed.0 in
-    omega (arith, c.loop-role.invariant)
-
-pub loop-role-preserved : goal.loop-role-preserved
-loop-role-preserved c =
-    let i = c.loop-role.role-index in
-    let loose : ℕ → Bool = λ s. is_loose (role c.args.roles.now s) in
-    elim c.if-is_loose.branch [
-      | then-is_loose w ↦ w.n-is ∙ ap (λ (n : ℕ). n + 1) c.loop-role.invariant ∙ sym (tally_more i loose (sym w.if-is_loose.ensures))
-      | else-is_loose w ↦ w.n-is ∙ c.loop-role.invariant ∙ sym (tally-same i loose (sym w.if-is_loose.ensures))
-    ]
+pub returns : goal.returns
+returns c = chain ∙ tally_list is_loose Held c.args.roles.now
+  where
+    chain : c.count.result ≡ count_by is_loose c.args.roles.now
+    chain = search rules

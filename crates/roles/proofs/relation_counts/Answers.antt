@@ -1,22 +1,21 @@
-use Rattle.std.proofs.Common.{ℕ, ◌<◌, Bool, not, ◌&&◌, length, get_or, ℤ, pos, sym, ap, ◌∙◌, arith, w64, SFits, rules}
-use Rattle.std.proofs.lemmas.Int.{to_z-of_z}
-use Rattle.whole.specs.Lists.{at}
+use Rattle.std.proofs.Common.{rules, ◌≡◌, not, ◌&&◌, Bool, true, false, refl, ◌∙◌, ℤ, pos}
+use Rattle.std.proofs.lemmas.Iterator.Search.{any_from_yields_List}
+use Rattle.std.proofs.lemmas.Iterator.{YieldsList-from_slice, YieldsList-from_zip}
 use Rattle.whole.specs.Tests.{nonzero}
-use Rattle.whole.proofs.Tests.{some-any}
-use Rattle.rules.specs.Gripping.{role, is_held}
-use Rattle.roles.proofs.Counting.{counts-none}
+use Rattle.whole.proofs.Chains.{any_zip}
+use Rattle.records.specs.declared.role.Role.{Role}
+use Rattle.records.specs.declared.role.Role.TheVariants.{Held}
+use Rattle.rules.specs.Gripping.{is_held}
 use Rattle.roles.proofs.relation_counts.Goals as goal
 
-pub returns-then-moves : goal.returns-then-moves
-returns-then-moves c =
-    let moving : ℕ → Bool = λ s. not (is_held (role c.args.roles.now s)) && nonzero (at c.args.coefficients.now s) in
-    let below : c.loop-s.s < length c.args.roles.now = omega (arith, c.loop-s-test.true, c.min-n.ensures) in
-    let fits : SFits w64 (get_or c.args.coefficients.now c.loop-s.s (pos 0)) = search rules in
-    let read = to_z-of_z w64 (get_or c.args.coefficients.now c.loop-s.s (pos 0)) fits in
-    sym (some-any (length c.args.roles.now) moving c.loop-s.s below
-    (ap (λ (z : ℤ). not (is_held (role c.args.roles.now c.loop-s.s)) && nonzero z) (sym read) ∙ sym c.if-moves.ensures))
+abbrev moved : Role → ℤ → Bool
+moved r x = not (is_held r) && nonzero x
+
+none : (b : Bool) → (b && false) ≡ false
+none true = refl
+none false = refl
 
 pub returns : goal.returns
 returns c =
-    let end = c.loop-s-test.false in
-    sym (counts-none c.args.roles.now c.args.coefficients.now (λ k h l. c.loop-s.invariant k (omega (arith, end, c.min-n.ensures))))
+    any_from_yields_List (λ q. moved q.0 q.1) c.any.new.self _ _ c.any.ensures.ran (YieldsList-from_zip (YieldsList-from_slice c.args.roles.now cc) (YieldsList-from_slice c.args.coefficients.now cc)) (λ x b q k. search rules)
+    ∙ any_zip moved Held (pos 0) c.args.roles.now c.args.coefficients.now (λ r. none (not (is_held r)))

@@ -1,16 +1,10 @@
-use Rattle.std.proofs.Common.{length, sym, arith, below_more}
-use Rattle.whole.proofs.Tests.{some-any, none_any}
-use Rattle.rules.specs.Gripping.{role, bad_weight}
+use Rattle.std.proofs.Common.{rules, ◌∙◌}
+use Rattle.std.proofs.lemmas.Iterator.Search.{any_from_yields_List}
+use Rattle.std.proofs.lemmas.Iterator.{YieldsList-from_slice}
+use Rattle.whole.proofs.Chains.{any_list}
+use Rattle.records.specs.declared.role.Role.TheVariants.{Held}
+use Rattle.rules.specs.Gripping.{bad_weight}
 use Rattle.roles.proofs.some_bad_weight.Goals as goal
 
-pub returns-then-bad_weight : goal.returns-then-bad_weight
-returns-then-bad_weight c =
-    sym (some-any (length c.args.roles.now) (λ s. bad_weight (role c.args.roles.now s)) c.loop-role.role-index c.loop-role-test.true (sym c.if-bad_weight.ensures))
-
-pub loop-role-preserved : goal.loop-role-preserved
-loop-role-preserved c = below_more _ _ c.loop-role.invariant (sym c.if-bad_weight.ensures)
-
 pub returns : goal.returns
-returns c =
-    let end = c.loop-role-test.false in
-    sym (none_any (length c.args.roles.now) (λ s. bad_weight (role c.args.roles.now s)) (λ k h. c.loop-role.invariant k (omega arith)))
+returns c = any_from_yields_List bad_weight _ _ _ c.any.ensures.ran (YieldsList-from_slice c.args.roles.now cc) (λ x b q k. search rules) ∙ any_list bad_weight Held c.args.roles.now

@@ -22,8 +22,8 @@ fn gap<K: Kind>(n: usize, d: i64, values: &[K], coefficients: &[i64], q: K) -> K
     ensures { (c : ℕ) → at (K.coords result) c ≡ gap_at n d (map K.coords values.now) coefficients.now (K.coords q) c }
 {
     let mut sum = combine(K::zero(), -d, q);
-    for s in 0..n {
-        sum = combine(sum, coefficients[s], values[s]);
+    for (k, v) in coefficients[..n].iter().zip(values) {
+        sum = combine(sum, *k, *v);
     }
     sum
 }
@@ -41,28 +41,21 @@ fn untrue<K: Kind>(n: usize, d: i64, values: &[K], coefficients: &[i64], q: K) -
     value_above(gap(n, d, values, coefficients, q), 0)
 }
 
-// Whether all of the first n coefficients are 0.
+// Whether all of the first n coefficients are 0; one that the list lacks is 0.
 fn all_zero(n: usize, coefficients: &[i64]) -> bool
-    requires { n ≤ length coefficients.now }
     ensures { result ≡ not (any n (λ p. nonzero (at coefficients.now p))) }
 {
-    for s in 0..n {
-        if coefficients[s] != 0 {
-            return false;
-        }
-    }
-    true
+    !coefficients.iter().take(n).any(|k| *k != 0)
 }
 
-// The record of a relation over the first n parameters.
-fn record_of(n: usize, coefficients: &[i64]) -> Relation
-    requires { (n ≤ length coefficients.now) × (n ≤ 48) }
-    ensures { result ≡ recorded n coefficients.now }
+// The record of a relation with these coefficients.
+fn record_of(coefficients: &[i64]) -> Relation
+    requires { length coefficients.now ≤ 48 }
+    ensures { result ≡ recorded (length coefficients.now) coefficients.now }
 {
     let mut row = [0; MOST_PARAMETERS];
-    for s in 0..n {
-        row[s] = coefficients[s];
-    }
+    let n = coefficients.len();
+    row[..n].copy_from_slice(coefficients);
     Relation {
         coefficients: row,
         mark: Mark::Idle,
@@ -81,19 +74,13 @@ impl Sheet {
     ) -> Result<(), Refusal>
         ensures { result ≡ bind_answer K.size (numbers self.now) (map K.coords values.now) relations.now (map K.coords constants.now) coefficients.now (K.coords q) }
     {
-        if coefficients.len() < self.count {
-            return Err(Refusal::Unfit);
-        }
-        if unfit(self, values, relations, constants) {
+        if coefficients.len() < self.count || unfit(self, values, relations, constants) {
             return Err(Refusal::Unfit);
         }
         if self.bound >= MOST_RELATIONS {
             return Err(Refusal::Full);
         }
-        if all_zero(self.count, coefficients) {
-            return Err(Refusal::Coefficients);
-        }
-        if bad_coefficients(self.count, coefficients) {
+        if all_zero(self.count, coefficients) || bad_coefficients(self.count, coefficients) {
             return Err(Refusal::Coefficients);
         }
         if bad_constant(q) {
@@ -118,7 +105,7 @@ impl Sheet {
     {
         self.bind_answer(values, relations, constants, coefficients, q)?;
         let b = self.bound;
-        relations[b] = record_of(self.count, coefficients);
+        relations[b] = record_of(&coefficients[..self.count]);
         constants[b] = q;
         self.bound = b + 1;
         Ok(())

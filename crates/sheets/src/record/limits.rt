@@ -5,6 +5,7 @@ ghost use Rattle.sheets.specs.Shown.{numbers};
 use super::Sheet;
 use kinds::{Kind, value_above, values_above};
 use records::Relation;
+use whole::some_above;
 
 pub(crate) const MOST_PARAMETERS: usize = 48;
 
@@ -34,15 +35,9 @@ fn reach(d: i64) -> u64
 
 // Whether one of the first n coefficients is out of range.
 pub(crate) fn bad_coefficients(n: usize, coefficients: &[i64]) -> bool
-    requires { n ≤ length coefficients.now }
     ensures { result ≡ bad_coefs n coefficients.now }
 {
-    for s in 0..n {
-        if coefficients[s].unsigned_abs() > MOST_COEFFICIENT {
-            return true;
-        }
-    }
-    false
+    some_above(coefficients, n, MOST_COEFFICIENT)
 }
 
 pub(crate) fn bad_constant<K: Kind>(q: K) -> bool
@@ -52,7 +47,6 @@ pub(crate) fn bad_constant<K: Kind>(q: K) -> bool
 }
 
 fn bad_relation<K: Kind>(n: usize, relation: &Relation, q: K) -> bool
-    requires { n ≤ 48 }
     ensures { result ≡ bad_relation K.size n relation.now (K.coords q) }
 {
     bad_coefficients(n, &relation.coefficients) || bad_constant(q)
@@ -62,39 +56,29 @@ fn bad_relation<K: Kind>(n: usize, relation: &Relation, q: K) -> bool
 pub fn unfit_values<K: Kind>(n: usize, d: i64, values: &[K]) -> bool
     ensures { result ≡ unfit_values K.size n d (map K.coords values.now) }
 {
-    if values.len() < n {
+    if values.len() < n || bad_denominator(d) {
         return true;
     }
-    if bad_denominator(d) {
-        return true;
-    }
-    values_above(&values[0..n], reach(d))
+    values_above(&values[..n], reach(d))
 }
 
 // Whether a list by relation is short, or a number of a bound relation breaks its limit.
 fn unfit_relations<K: Kind>(sheet: &Sheet, relations: &[Relation], constants: &[K]) -> bool
     ensures { result ≡ unfit_relations K.size (numbers sheet.now) relations.now (map K.coords constants.now) }
 {
-    if relations.len() < MOST_RELATIONS {
+    if relations.len() < MOST_RELATIONS || constants.len() < MOST_RELATIONS {
         return true;
     }
-    if constants.len() < MOST_RELATIONS {
-        return true;
-    }
-    for i in 0..sheet.bound {
-        if bad_relation(sheet.count, &relations[i], constants[i]) {
-            return true;
-        }
-    }
-    false
+    relations[..sheet.bound]
+        .iter()
+        .zip(constants)
+        .any(|(relation, q)| bad_relation(sheet.count, relation, *q))
 }
 
 // Whether a list of the sheet is short, or a number of a kept value or of a bound relation breaks its limit.
 pub fn unfit<K: Kind>(sheet: &Sheet, values: &[K], relations: &[Relation], constants: &[K]) -> bool
     ensures { result ≡ unfit K.size (numbers sheet.now) (map K.coords values.now) relations.now (map K.coords constants.now) }
 {
-    if unfit_values(sheet.count, sheet.denominator, values) {
-        return true;
-    }
-    unfit_relations(sheet, relations, constants)
+    unfit_values(sheet.count, sheet.denominator, values)
+        || unfit_relations(sheet, relations, constants)
 }

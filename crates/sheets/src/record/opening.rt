@@ -9,13 +9,12 @@ use super::limits::MOST_PARAMETERS;
 use kinds::Kind;
 use records::Refusal;
 
-// Sets the first n values to zero.
-fn clear<K: Kind>(n: usize, values: &mut [K])
-    requires { n ≤ length values.old }
-    ensures { map K.coords values.new ≡ written n (zeros n K.size) (map K.coords values.old) }
+// Sets all values to zero.
+pub fn clear<K: Kind>(values: &mut [K])
+    ensures { map K.coords values.new ≡ zeros (length values.old) K.size }
 {
-    for s in 0..n {
-        values[s] = K::zero();
+    for v in values.iter_mut() {
+        *v = K::zero();
     }
 }
 
@@ -30,7 +29,7 @@ impl Sheet {
         if count < 1 || count > MOST_PARAMETERS {
             return Err(Refusal::Count);
         }
-        clear(count, values);
+        clear(&mut values[..count]);
         Ok(Sheet {
             count,
             bound: 0,

@@ -1,37 +1,26 @@
-use Rattle.std.proofs.Common.{◌+◌, ◌-◌, length, take, drop, subst, arith, w64, SFits, rules}
+use Rattle.std.proofs.Common.{sym, ◌∙◌, subst, arith, w64, SFits, rules}
 use Rattle.std.proofs.lemmas.Int.{ints}
 use Rattle.words.specs.Numbers.{Number}
-use Rattle.forms.specs.Points.{no_comma, around, front_lacks, parts}
+use Rattle.forms.specs.Points.{no_comma, around, halves, front, behind}
 use Rattle.forms.proofs.point.parse_point.Goals as goal
 
-pub returns-then-comma-bytes : goal.returns-then-comma-bytes
-returns-then-comma-bytes c = no_comma c.args.bytes.now c.comma_in-comma.result c.if-comma-bytes.true c.comma_in-comma.ensures.none
+pub returns-in_err-comma : goal.returns-in_err-comma
+returns-in_err-comma c = rw c.from_residual.ensures (no_comma c.args.bytes.now (sym c.place_of.ensures ∙ c.in_err-comma.was))
 
-pub returns-in_default : goal.returns-in_default
-returns-in_default c p f =
-    let told = c.comma_in-comma.ensures in
-    let inside = c.if-comma-bytes.false in
-    let same = parts c.args.bytes.now _ _ p (around c.args.bytes.now c.comma_in-comma.result inside (told.stops inside)) (front_lacks c.args.bytes.now c.comma_in-comma.result told.none told.high) f in
-    c.in_default.ensures p.x (subst (λ v. Number v p.x) same.0 f.left)
+pub returns-in_err-x : goal.returns-in_err-x
+returns-in_err-x c = rw c.from_residual-in_err-x.ensures (λ p f. c.in_err-x.ensures p.x (halves c.args.bytes.now c.in_ok-comma.comma (sym c.in_ok-comma.ensures) p f).0)
 
-pub returns-in_default-parse_number : goal.returns-in_default-parse_number
-returns-in_default-parse_number c p f =
-    let told = c.comma_in-comma.ensures in
-    let inside = c.if-comma-bytes.false in
-    let same = parts c.args.bytes.now _ _ p (around c.args.bytes.now c.comma_in-comma.result inside (told.stops inside)) (front_lacks c.args.bytes.now c.comma_in-comma.result told.none told.high) f in
-    c.in_default-parse_number.ensures p.y (subst (λ v. Number v p.y) same.1 f.right)
+pub returns-in_err-y : goal.returns-in_err-y
+returns-in_err-y c = rw c.from_residual-in_err-y.ensures (λ p f. c.in_err-y.ensures p.y (halves c.args.bytes.now c.in_ok-comma.comma (sym c.in_ok-comma.ensures) p f).1)
 
 pub returns : goal.returns
 returns c =
-    let inside = c.if-comma-bytes.false in
-    let n = c.comma_in-comma.result in
-    let w = c.args.bytes.now in
-    let fx : SFits w64 c.in-Some.x = search rules in
-    let fy : SFits w64 c.in-Some-parse_number.y = search rules in
+    let fx : SFits w64 c.in_ok-x.x = search rules in
+    let fy : SFits w64 c.in_ok-y.y = search rules in
     record {
-      first = take (n - 0) (drop 0 w);
-      second = take (length w - (n + 1)) (drop (n + 1) w);
-      comma = around w n inside (c.comma_in-comma.ensures.stops inside);
-      left = subst (Number _) (omega (arith, ints)) c.in-Some.ensures;
-      right = subst (Number _) (omega (arith, ints)) c.in-Some-parse_number.ensures;
+      first = front c.args.bytes.now c.in_ok-comma.comma;
+      second = behind c.args.bytes.now c.in_ok-comma.comma;
+      comma = around c.args.bytes.now c.in_ok-comma.comma (sym c.in_ok-comma.ensures);
+      left = subst (Number _) (omega (arith, ints)) c.in_ok-x.ensures;
+      right = subst (Number _) (omega (arith, ints)) c.in_ok-y.ensures;
     }

@@ -3,4 +3,4 @@ use Rattle.forms.specs.Leads.{value_read}
 use Rattle.forms.proofs.values.read_value.Goals as goal
 
 pub returns : goal.returns
-returns g c = search (rules, value_read)
+returns g c = let h = c.in_ok-word.ensures in search (rules, value_read)

@@ -1,4 +1,4 @@
-use Rattle.std.proofs.Common.{◌≡◌, ℕ, ◌+◌, ◌<◌, List, [], ◌∷◌, length, set, sym, ap, ◌∙◌, ap₂, arith, length-append, rules}
+use Rattle.std.proofs.Common.{ℕ, ◌+◌, ◌<◌, List, [], ◌∷◌, length, set, sym, ap, ◌∙◌, ap₂, arith, length-append}
 use Rattle.rules.specs.Values.{written}
 use Rattle.grips.specs.Spares.{spare_marks}
 use Rattle.grips.proofs.Listing.{spare_more, spare-same, grows, push_written}
@@ -12,17 +12,11 @@ room c =
     let i = c.loop-i.i in
     let more = ap length (spare_more rs i (sym c.if-is_spare.ensures)) in
     let one = length-append (spare_marks rs i) (i ∷ []) in
-    let up = grows rs (i + 1) c.args.bound (omega (arith, c.loop-i-test.true)) in
-    omega (arith, c.loop-i.invariant.0, more, one, up, c.requires.room)
+    let up = grows rs (i + 1) (length c.args.relations.now) (omega (arith, c.loop-i-test.true)) in
+    omega (arith, c.loop-i.invariant.0, more, one, up, c.requires)
 
 pub bounds-spare-k : goal.bounds-spare-k
 bounds-spare-k c = omega (arith, room c, c.loop-i.auto.spare)
-
-pub offset_bounds-spare-k : goal.offset_bounds-spare-k
-offset_bounds-spare-k c = let h : c.loop-i.k < length c.loop-i.spare = omega (arith, room c, c.loop-i.auto.spare) in search rules
-
-pub overflow_add-k : goal.overflow_add-k
-overflow_add-k c = let h : c.loop-i.k < length c.loop-i.spare = omega (arith, room c, c.loop-i.auto.spare) in search rules
 
 pub loop-i-preserved : goal.loop-i-preserved
 loop-i-preserved c =
@@ -35,11 +29,11 @@ loop-i-preserved c =
           let e = sym w.if-is_spare.ensures in
           let more = spare_more rs i e in
           let one = length-append (spare_marks rs i) (i ∷ []) in
-          let up = grows rs (i + 1) c.args.bound (omega (arith, c.loop-i-test.true)) in
+          let up = grows rs (i + 1) (length c.args.relations.now) (omega (arith, c.loop-i-test.true)) in
           let long = ap length more in (
             omega (arith, w.k-is, c.loop-i.invariant.0, long, one),
             w.spare-is ∙ ap (λ (xs : List ℕ). set xs k i) c.loop-i.invariant.1
-                ∙ push_written (spare_marks rs i) old i k c.loop-i.invariant.0 (omega (arith, c.loop-i.invariant.0, long, one, up, c.requires.room))
+                ∙ push_written (spare_marks rs i) old i k c.loop-i.invariant.0 (omega (arith, c.loop-i.invariant.0, long, one, up, c.requires))
                 ∙ ap₂ (λ (j : ℕ) (xs : List ℕ). written j xs old) (sym w.k-is) (sym more),
           )
       | else-is_spare w ↦
@@ -48,10 +42,3 @@ loop-i-preserved c =
             w.spare-is ∙ c.loop-i.invariant.1 ∙ ap₂ (λ (j : ℕ) (xs : List ℕ). written j xs old) (sym w.k-is) (sym same),
           )
     ]
-
-pub returns : goal.returns
-returns c =
-    let rs = c.args.relations.now in
-    let e : c.loop-i.i ≡ c.args.bound = omega (arith, c.loop-i-test.false, c.loop-i.auto.i-end) in
-    let many = c.loop-i.invariant.0 ∙ ap (λ (k : ℕ). length (spare_marks rs k)) e in
-    record { count = many; list = c.loop-i.invariant.1 ∙ ap₂ (λ (j k : ℕ). written j (spare_marks rs k) c.args.spare.now) many e }

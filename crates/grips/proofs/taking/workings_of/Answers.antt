@@ -1,4 +1,4 @@
-use Rattle.std.proofs.Common.{ℕ, ◌-◌, map, take, sym, ◌∙◌, ap₂, arith}
+use Rattle.std.proofs.Common.{ℕ, map, take, sym, ◌∙◌, ap₂, arith}
 use Rattle.workings.specs.Chosen.{gripped}
 use Rattle.sheets.specs.Shown.{numbers}
 use Rattle.sheets.proofs.Fit.{long}
@@ -13,6 +13,6 @@ returns g c =
     let fine = sym c.if-unfit.ensures in
     let t = long f size (numbers s) c.args.values.now c.args.relations.now c.args.constants.now fine in
     c.make.ensures.value
-    ∙ ap₂ (λ (b n : ℕ). gripped (take (b - 0) c.args.relations.now) (take (n - 0) c.args.roles.now)) c.bound-bound.ensures c.count-n.ensures
+    ∙ ap₂ (λ (b n : ℕ). gripped (take b c.args.relations.now) (take n c.args.roles.now)) c.bound-bound.ensures c.count-n.ensures
     ∙ answered size (numbers s) (map f c.args.values.now) c.args.relations.now (map f c.args.constants.now) c.args.roles.now c.args.spare.now
     s.few (omega (arith, t.relations_long, s.room)) (omega (arith, c.if-roles-n.false, c.count-n.ensures)) c.if-spare-lt-SPARE_PLACES.false fine

@@ -1,35 +1,47 @@
-use Rattle.std.proofs.Common.{◌≡◌, length, vec_items, vec_len, sym, refl, ap, ◌∙◌, subst, arith, rules}
+use Rattle.std.proofs.Common.{◌≡◌, vec_items, vec_len, sym, refl, ap, ◌∙◌, subst, arith, rules}
 use Rattle.std.proofs.lemmas.Bool.{false≢true}
+use Rattle.std.proofs.lemmas.Result.{err_from_is_err_and}
 use Rattle.words.specs.Reading.{left}
-use Rattle.heading.specs.Names.{texts}
+use Rattle.words.proofs.Appends.{form_refused}
+use Rattle.heading.specs.Names.{NameRead, texts}
 use Rattle.heading.proofs.Rows.{Taken, has_same, texts_push, vec_texts, taken_none, no_name, too_many, twice, taken_more, nothing, taken_all}
 use Rattle.heading.proofs.read.read_names.Goals as goal
-
-pub returns-in_default : goal.returns-in_default
-returns-in_default c =
-    no_name (left c.args.reader.now) (left c.loop-reader.reader) (texts (vec_items c.loop-reader.names)) c.loop-reader.invariant.0 (left c.next_name.new.reader) c.loop-reader-test.ensures c.in_default.ensures.read
-
-pub returns-then-len-ge-NAMES : goal.returns-then-len-ge-NAMES
-returns-then-len-ge-NAMES c =
-    too_many (left c.args.reader.now) (left c.loop-reader.reader) (texts (vec_items c.loop-reader.names)) c.loop-reader.invariant.0 _ _ c.in-Some.ensures.read.1 (omega (arith, vec_texts c.loop-reader.names, c.len.ensures, c.if-len-ge-NAMES.true))
-
-pub returns-then-holds : goal.returns-then-holds
-returns-then-holds c =
-    let names = texts (vec_items c.loop-reader.names) in
-    let size : c.len-in-loop-reader.result ≡ length names = c.len-in-loop-reader.ensures ∙ sym (vec_texts c.loop-reader.names) in
-    twice (left c.args.reader.now) (left c.loop-reader.reader) names c.loop-reader.invariant.0 _ _ c.in-Some.ensures.read.1
-    (has_same _ names _ _ _ (c.if-holds.ensures.0 refl) (ap texts c.as_slice.ensures.value) (omega arith))
+use Rattle.heading.proofs.read.read_names.Goals.{then-len-ge-NAMES-via-then-len-ge-NAMES, then-len-ge-NAMES-via-else-len-ge-NAMES+then-holds}
 
 pub loop-reader-init : goal.loop-reader-init
 loop-reader-init c = (subst (Taken (left c.args.reader.now) (left c.args.reader.now)) (sym (ap texts c.new-names.ensures.items)) (taken_none (left c.args.reader.now)), c.requires)
 
+pub returns-in_err-name : goal.returns-in_err-name
+returns-in_err-name c =
+    let p = err_from_is_err_and c.from_residual.result c.from_residual.ensures.1 in
+    let rest = left c.loop-reader.reader in
+    let after = left c.next_name.new.reader in
+    rw (p.1, p.2) (form_refused c.next_name.result c.in_err-name.field-0.0 _ c.in_err-name.ensures.value (λ none.
+    no_name (left c.args.reader.now) rest (texts (vec_items c.loop-reader.names)) c.loop-reader.invariant.0 after c.loop-reader-test.ensures (subst (NameRead rest after) none c.next_name.ensures.read)))
+
+pub returns-then-len-ge-NAMES : goal.returns-then-len-ge-NAMES
+returns-then-len-ge-NAMES c =
+    let all = left c.args.reader.now in
+    let rest = left c.loop-reader.reader in
+    let after = left c.next_name.new.reader in
+    let names = vec_items c.loop-reader.names in
+    let read = subst (NameRead rest after) c.in_ok-name.ensures.ok_part c.next_name.ensures.read in
+    elim c.then-len-ge-NAMES.branch [
+      | then-len-ge-NAMES-via-then-len-ge-NAMES w ↦ too_many all rest (texts names) c.loop-reader.invariant.0 _ after read.1 (omega (arith, vec_texts c.loop-reader.names, c.len.ensures, w.if-len-ge-NAMES.true))
+      | then-len-ge-NAMES-via-else-len-ge-NAMES+then-holds w ↦ twice all rest (texts names) c.loop-reader.invariant.0 _ after read.1 ((has_same _ names _ _ w.as_slice.ensures.value w.if-holds.ensures).0 refl)
+    ]
+
 pub loop-reader-preserved : goal.loop-reader-preserved
 loop-reader-preserved c =
-    let names = texts (vec_items c.loop-reader.names) in
-    let size : c.len-in-loop-reader.result ≡ length names = c.len-in-loop-reader.ensures ∙ sym (vec_texts c.loop-reader.names) in
-    let more = taken_more (left c.args.reader.now) (left c.loop-reader.reader) names c.loop-reader.invariant.0 c.in-Some.name.now (left c.next_name.new.reader) c.in-Some.ensures.read.1 (omega (arith, vec_texts c.loop-reader.names, c.len.ensures, c.if-len-ge-NAMES.false)) c.in-Some.ensures.read.0
-    (λ h. false≢true (c.if-holds.ensures.1 (has_same names _ _ _ _ h (sym (ap texts c.as_slice.ensures.value)) (omega arith)))) in
-    (subst (Taken (left c.args.reader.now) (left c.next_name.new.reader)) (sym (ap texts c.in-Ok.ensures.items ∙ texts_push (vec_items c.loop-reader.names) c.in-Some.name)) more, c.in-Some.ensures.later)
+    let all = left c.args.reader.now in
+    let rest = left c.loop-reader.reader in
+    let after = left c.next_name.new.reader in
+    let names = vec_items c.loop-reader.names in
+    let read = subst (NameRead rest after) c.in_ok-name.ensures.ok_part c.next_name.ensures.read in
+    let fresh = has_same _ names _ _ c.as_slice.ensures.value c.if-holds.ensures in
+    let more = taken_more all rest (texts names) c.loop-reader.invariant.0 c.in_ok-name.name.now after read.1 (omega (arith, vec_texts c.loop-reader.names, c.len.ensures, c.if-len-ge-NAMES.false)) read.0
+    (λ h. false≢true (fresh.1 h)) in
+    (subst (Taken all after) (sym (ap texts c.in_ok-push.ensures.items ∙ texts_push names c.in_ok-name.name)) more, search rules)
 
 pub returns-then-is_empty : goal.returns-then-is_empty
 returns-then-is_empty c =

@@ -1,20 +1,12 @@
-use Rattle.std.proofs.Common.{◌≡◌, true, false, map, length, sym, ◌∙◌}
-use Rattle.whole.specs.Lists.{at, coord}
+use Rattle.std.proofs.Common.{rules, ◌∙◌, []}
+use Rattle.std.proofs.lemmas.Iterator.Search.{any_from_yields_List}
+use Rattle.std.proofs.lemmas.Iterator.{YieldsList-from_slice}
+use Rattle.whole.specs.Lists.{at}
 use Rattle.whole.specs.Tests.{any, above}
-use Rattle.whole.proofs.Tests.{some-any}
-use Rattle.kinds.proofs.Tests.{any_more, at_place}
+use Rattle.whole.proofs.Chains.{any_map}
 use Rattle.kinds.proofs.limits.values_above.Goals as goal
 
-pub returns-then-value_above : goal.returns-then-value_above
-returns-then-value_above g c =
-    let us = map g.K.Kind.coords c.args.vs.now in
-    let e : true ≡ any g.K.Kind.size (λ j. above c.args.most (at (g.K.Kind.coords c.v-item.result) j)) = cc c.if-value_above.ensures in
-    let p = at_place g.K.Kind.coords g.K.Kind.size c.args.most c.args.vs.now c.loop-v.v-index c.v-item.result c.loop-v-test.true c.v-item.is in
-    sym (some-any (length c.args.vs.now) (λ s. any g.K.Kind.size (λ j. above c.args.most (coord us s j))) c.loop-v.v-index c.loop-v-test.true (sym (e ∙ p)))
-
-pub loop-v-preserved : goal.loop-v-preserved
-loop-v-preserved g c =
-    let us = map g.K.Kind.coords c.args.vs.now in
-    let e : false ≡ any g.K.Kind.size (λ j. above c.args.most (at (g.K.Kind.coords c.v-item.result) j)) = cc c.if-value_above.ensures in
-    let p = at_place g.K.Kind.coords g.K.Kind.size c.args.most c.args.vs.now c.loop-v.v-index c.v-item.result c.loop-v-test.true c.v-item.is in
-    any_more c.loop-v.v-index (λ s. any g.K.Kind.size (λ j. above c.args.most (coord us s j))) c.loop-v.invariant (sym (e ∙ p))
+pub returns : goal.returns
+returns g c =
+    any_from_yields_List (λ v. any g.K.Kind.size (λ k. above c.args.most (at (g.K.Kind.coords v) k))) _ _ _ c.any.ensures.ran (YieldsList-from_slice c.args.vs.now cc) (λ x b q k. search rules)
+    ∙ any_map g.K.Kind.coords (λ us. any g.K.Kind.size (λ k. above c.args.most (at us k))) [] c.args.vs.now

@@ -1,7 +1,7 @@
-use Rattle.std.proofs.Common.{◌≡◌, ◌≤◌, ◌*ℤ◌, nat_abs, arith, w64, SFits, rules}
+use Rattle.std.proofs.Common.{◌∙◌, ◌≤◌, nat_abs, arith, w64, SFits, rules}
 use borrow.Author.Differences.{ints}
 use Rattle.std.proofs.lemmas.Int.{to_z-of_z}
-use Rattle.kinds.proofs.Steps.{fused_ok, fused_no_sum, fused_quick, small-sum-fits, small-product-fits}
+use Rattle.kinds.proofs.Steps.{fused_sum, fused_quick, small-sum-fits, small-product-fits}
 use Rattle.kinds.proofs.step.fused.Goals as goal
 
 pub overflow_mul-result : goal.overflow_mul-result
@@ -27,22 +27,9 @@ returns-then-u-lt-BEGUN c =
     let hu : nat_abs c.args.u ≤ 4611686018427387903 = omega (arith, ints) in
     fused_quick c.args.u c.args.k c.args.v c.ranges.u c.ranges.k c.ranges.v hu hk hv
 
-pub returns-in-None-checked_add : goal.returns-in-None-checked_add
-returns-in-None-checked_add c =
+pub returns : goal.returns
+returns c =
     let fu = c.ranges.u in let fk = c.ranges.k in let fv = c.ranges.v in
-    let p = simp to_z-of_z at c.in-Some.ensures in
-    let q = p.1 in
-    let e : c.in-Some.p ≡ c.args.k *ℤ c.args.v = cc in
-    let fp : SFits w64 c.in-Some.p = search rules in
-    fused_no_sum c.args.u c.args.k c.args.v c.in-Some.p p.0 e (simp to_z-of_z at c.in-None-checked_add.ensures)
-
-pub returns-in-Some-checked_add : goal.returns-in-Some-checked_add
-returns-in-Some-checked_add c =
-    let fu = c.ranges.u in let fk = c.ranges.k in let fv = c.ranges.v in
-    let p = simp to_z-of_z at c.in-Some.ensures in
-    let q = p.1 in
-    let e : c.in-Some.p ≡ c.args.k *ℤ c.args.v = cc in
-    let fp : SFits w64 c.in-Some.p = search rules in
-    let fs : SFits w64 c.in-Some-checked_add.s = search rules in
-    let r = simp to_z-of_z at c.in-Some-checked_add.ensures in
-    simp to_z-of_z (fused_ok c.args.u c.args.k c.args.v c.in-Some.p c.in-Some-checked_add.s p.0 e r.0 r.1)
+    let p = simp (to_z-of_z, c.in_ok-product.ensures.ok_part) at c.checked_mul.ensures in
+    let fp : SFits w64 c.in_ok-product.product = search rules in
+    c.ok_or-2.ensures.value ∙ fused_sum c.args.u c.args.k c.args.v c.in_ok-product.product c.checked_add.result p.0 p.1 (simp to_z-of_z at c.checked_add.ensures)

@@ -5,7 +5,8 @@ use Rattle.whole.specs.Lists.{at}
 use Rattle.whole.proofs.Lists.{tab-length, at-tab}
 use Rattle.pulls.specs.Steps.{quotients}
 use Rattle.pulls.proofs.Quotients.{quotient_fits}
-use Rattle.pulls.proofs.Placed.{written_all, written_set}
+use Rattle.sheets.proofs.Writing.{written_all}
+use Rattle.pulls.proofs.Placed.{written_set}
 use Rattle.pulls.proofs.lists.divided.Goals as goal
 
 pub loop-k-preserved : goal.loop-k-preserved

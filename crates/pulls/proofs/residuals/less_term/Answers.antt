@@ -1,4 +1,4 @@
-use Rattle.std.proofs.Common.{◌≡◌, ◌^◌, ◌<◌, ◌≤◌, ℤ, pos, ◌-ℤ◌, ◌*ℤ◌, neg_ℤ, nat_abs, sym, ap, ◌∙◌, ap₂, arith, w64, SFits, to_z, of_z}
+use Rattle.std.proofs.Common.{◌≡◌, ◌^◌, ◌<◌, ◌≤◌, ℤ, pos, ◌-ℤ◌, ◌*ℤ◌, neg_ℤ, nat_abs, sym, ap, ◌∙◌, ap₂, inl, inr, List, arith, w64, SFits, to_z, of_z}
 use borrow.Author.Differences.{ints}
 use Rattle.std.proofs.lemmas.Int.{to_z-of_z}
 use Rattle.records.specs.declared.role.Role.{Role}
@@ -22,13 +22,6 @@ minus d a fd fa hd ha =
 pub returns-in-Pulled : goal.returns-in-Pulled
 returns-in-Pulled g c =
     let f = g.K.Kind.coords in
-    c.add-in-Pulled.ensures
-    ∙ ap (λ (z : ℤ). plus (f c.args.sum) z (f c.args.wish)) (minus c.args.d c.args.coefficient c.ranges.d c.ranges.coefficient c.requires.0 c.requires.1)
-    ∙ ap (λ (r : Role). plus (f c.args.sum) (factor r c.args.d c.args.coefficient) (taken r (f c.args.wish) (f c.args.value))) (sym c.in-Pulled.is)
-
-pub returns-in-Loose : goal.returns-in-Loose
-returns-in-Loose g c =
-    let f = g.K.Kind.coords in
-    c.add-in-Loose.ensures
-    ∙ ap (λ (z : ℤ). plus (f c.args.sum) z (f c.args.wish)) (minus c.args.d c.args.coefficient c.ranges.d c.ranges.coefficient c.requires.0 c.requires.1)
-    ∙ ap (λ (r : Role). plus (f c.args.sum) (factor r c.args.d c.args.coefficient) (taken r (f c.args.wish) (f c.args.value))) (sym c.in-Loose.is)
+    let subtracted = c.add-in-Pulled.ensures ∙ ap (λ (z : ℤ). plus (f c.args.sum) z (f c.args.wish)) (minus c.args.d c.args.coefficient c.ranges.d c.ranges.coefficient c.requires.over c.requires.small) in
+    let by : Role → List ℤ = λ r. plus (f c.args.sum) (factor r c.args.d c.args.coefficient) (taken r (f c.args.wish) (f c.args.value)) in
+    elim c.in-Pulled.is [ inl e ↦ subtracted ∙ ap by (sym e) | inr e ↦ subtracted ∙ ap by (sym e.1) ]

@@ -3,7 +3,7 @@ use borrow.Author.Differences.{ints}
 use Rattle.std.proofs.lemmas.Int.{to_z_pos}
 use Rattle.pulls.specs.Steps.{divisor_from, quotients}
 use Rattle.pulls.proofs.Divisors.{divisor-above, divisor-≤}
-use Rattle.pulls.proofs.Lowering.{lower-spare, lower-none, lower-needed}
+use Rattle.pulls.proofs.Lowering.{lower-spare, lower-needed}
 use Rattle.pulls.proofs.rows.lower_row.Goals as goal
 
 module _ (p h : ℕ) (us : List ℤ) (e : h ≡ divisor_from p us) (some : 0 < p) (few : p ≤ 2147483647) where
@@ -28,9 +28,6 @@ divided-requires g c =
     let a = above-0 c.args.p c.divisor_with-h.result (g.K.Kind.coords c.args.g) c.divisor_with-h.ensures h c.requires in
     let b : pos 1 ≤ℤ pos c.divisor_with-h.result = omega (arith, ints) in
     subst (λ (z : ℤ). pos 1 ≤ℤ z) (sym (read c.args.p c.divisor_with-h.result (g.K.Kind.coords c.args.g) c.divisor_with-h.ensures h c.requires)) b
-
-pub returns-then-value_above : goal.returns-then-value_above
-returns-then-value_above g c = lower-none g.K.Kind.size c.args.p (g.K.Kind.coords c.args.g) c.if-p-eq0.true (sym c.if-value_above.ensures)
 
 pub returns-then-p-eq0 : goal.returns-then-p-eq0
 returns-then-p-eq0 g c = lower-spare g.K.Kind.size c.args.p (g.K.Kind.coords c.args.g) (g.met.K.Kind.laws.sized c.args.g) c.if-p-eq0.true (sym c.if-value_above.ensures)

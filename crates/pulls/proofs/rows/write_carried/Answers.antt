@@ -11,7 +11,8 @@ use Rattle.rules.specs.Gripping.{is_needed}
 use Rattle.rules.specs.Pulling.{carried, divisors, lowered, lowered_sums, some_above}
 use Rattle.sheets.proofs.Writing.{written_more}
 use Rattle.workings.specs.Shown.{shown}
-use Rattle.pulls.proofs.Placed.{written_all, written_set}
+use Rattle.sheets.proofs.Writing.{written_all}
+use Rattle.pulls.proofs.Placed.{written_set}
 use Rattle.pulls.proofs.Refusing.{not_made}
 use Rattle.pulls.proofs.Lowering.{right_long, carried_found, row_ok, row_err}
 use Rattle.pulls.proofs.rows.write_carried.Goals as goal

@@ -4,7 +4,7 @@ use Rattle.whole.specs.Lists.{coord}
 use Rattle.rules.specs.Values.{grid, written}
 use Rattle.pulls.proofs.settling.divide_all.Given as goal
 
-abbrev pub invariant-loop-s : goal.invariant-loop-s
-invariant-loop-s g l =
+abbrev pub invariant-loop-v : goal.invariant-loop-v
+invariant-loop-v g l =
     let us = map g.K.Kind.coords l.initial.proposal in
-    map g.K.Kind.coords l.proposal ≡ written l.s (grid (length l.initial.proposal) g.K.Kind.size (λ s c. quot_z (coord us s c) l.g)) us
+    map g.K.Kind.coords l.proposal ≡ written l.v-index (grid (length l.initial.proposal) g.K.Kind.size (λ s c. quot_z (coord us s c) l.g)) us

@@ -63,4 +63,4 @@ returns-in-Err g c =
     c.deref.result.now c.deref_mut.result.now c.deref-2.result.now c.deref_mut-2.result.now
     c.deref.ensures.value c.deref_mut.ensures.value c.deref-2.ensures.value c.deref_mut-2.ensures.value
     refl refl refl refl (ap length rs ∙ ls ∙ sym k)
-    (rr ∙ e.marks) (numbers c.in-Err.no.back) c.in-Err.no.refusal _ e.result (record { state = λ l. refl; answer = refl })
+    (rr ∙ e.marks) (numbers c.in-Err.field-0.back) c.in-Err.field-0.refusal _ e.result (record { state = λ l. refl; answer = refl })

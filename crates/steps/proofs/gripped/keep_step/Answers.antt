@@ -1,4 +1,4 @@
-use Rattle.std.proofs.Common.{map, ℤ, box_value, refl, ap, ◌∙◌, subst, w64, to_z, of_z}
+use Rattle.std.proofs.Common.{map, ℤ, Ok, Err, box_value, refl, ap, ◌∙◌, subst, w64, to_z, of_z}
 use Rattle.std.specs.Vec.{with_items}
 use Rattle.std.proofs.lemmas.List.{with_items_is}
 use Rattle.std.proofs.lemmas.Int.{to_z-of_z}
@@ -7,7 +7,7 @@ use Rattle.sheets.specs.Shown.{numbers}
 use Rattle.workings.specs.Shown.{shown}
 use Rattle.grips.specs.Shown.{gripped_sheet}
 use Rattle.steps.specs.declared.lists.Lists.{Lists}
-use Rattle.calls.specs.declared.answer.Answer.TheVariants.{Done, Refused}
+use Rattle.calls.specs.declared.answer.Given.TheVariants.{Nothing}
 use Rattle.steps.specs.declared.state.State.TheVariants.{Free, Proposed}
 use Rattle.steps.specs.Steps.{in_use, Stepped}
 use Rattle.steps.proofs.Keeps.{kept_step, unkept_step}
@@ -20,15 +20,15 @@ returns-in-Ok g c =
     let lists = c.args.lists.now in
     let rv = with_items_is lists.values c.keep.new.values (c.keep.auto.values ∙ c.deref_mut.ensures.len) in
     let after : Lists g.row.K.Denot = record { values = with_items lists.values c.keep.new.values; relations = lists.relations; constants = lists.constants; proposal = lists.proposal; working = lists.working; spare = lists.spare } in
-    let s = gripped_sheet c.args.grip in
+    let s = gripped_sheet c.args.held.grip in
     let d = c.args.denominator in
-    let phase = runs.proposing (shown (box_value c.args.workings)) d in
+    let phase = runs.proposing (shown (box_value c.args.held.workings)) d in
     let read = to_z-of_z w64 d c.ranges.denominator in
     let e = c.in-Ok.ensures in
-    subst (λ (x : ℤ). Stepped f (runs.keeps size (in_use f lists s phase) x) after (Free c.in-Ok.sheet, Done)) read
+    subst (λ (x : ℤ). Stepped f (runs.keeps size (in_use f lists s phase) x) after (Free c.in-Ok.sheet, Ok Nothing)) read
     (kept_step f size lists after s phase (to_z w64 (of_z w64 d)) c.deref_mut.result.now c.deref.result.now c.deref-2.result.now c.deref-3.result.now
     c.deref_mut.ensures.value c.deref.ensures.value c.deref-2.ensures.value c.deref-3.ensures.value refl refl refl refl refl
-    (ap (map f) rv ∙ e.values) (numbers c.in-Ok.sheet) (Free c.in-Ok.sheet, Done) e.result (record { state = λ l. refl; answer = refl }))
+    (ap (map f) rv ∙ e.values) (numbers c.in-Ok.sheet) (Free c.in-Ok.sheet, Ok Nothing) e.result (record { state = λ l. refl; answer = refl }))
 
 pub returns-in-Err : goal.returns-in-Err
 returns-in-Err g c =
@@ -37,15 +37,15 @@ returns-in-Err g c =
     let lists = c.args.lists.now in
     let rv = with_items_is lists.values c.keep.new.values (c.keep.auto.values ∙ c.deref_mut.ensures.len) in
     let after : Lists g.row.K.Denot = record { values = with_items lists.values c.keep.new.values; relations = lists.relations; constants = lists.constants; proposal = lists.proposal; working = lists.working; spare = lists.spare } in
-    let s = gripped_sheet c.args.grip in
+    let s = gripped_sheet c.args.held.grip in
     let d = c.args.denominator in
-    let phase = runs.proposing (shown (box_value c.args.workings)) d in
+    let phase = runs.proposing (shown (box_value c.args.held.workings)) d in
     let read = to_z-of_z w64 d c.ranges.denominator in
     let e = c.in-Err.ensures in
-    let t = gripped_sheet c.in-Err.no.back in
-    let w = c.args.workings in
-    subst (λ (x : ℤ). Stepped f (runs.keeps size (in_use f lists s phase) x) after (Proposed c.in-Err.no.back w (to_z w64 (of_z w64 d)), Refused c.in-Err.no.refusal)) read
+    let t = gripped_sheet c.in-Err.field-0.back in
+    let w = c.args.held.workings in
+    subst (λ (x : ℤ). Stepped f (runs.keeps size (in_use f lists s phase) x) after (Proposed (record { grip = c.in-Err.field-0.back; workings = w }) (to_z w64 (of_z w64 d)), Err c.in-Err.field-0.refusal)) read
     (unkept_step f size lists after s phase (to_z w64 (of_z w64 d)) c.deref_mut.result.now c.deref.result.now c.deref-2.result.now c.deref-3.result.now
     c.deref_mut.ensures.value c.deref.ensures.value c.deref-2.ensures.value c.deref-3.ensures.value refl refl refl refl refl
-    (ap (map f) rv ∙ e.values) t c.in-Err.no.refusal (Proposed c.in-Err.no.back w (to_z w64 (of_z w64 d)), Refused c.in-Err.no.refusal) e.result
+    (ap (map f) rv ∙ e.values) t c.in-Err.field-0.refusal (Proposed (record { grip = c.in-Err.field-0.back; workings = w }) (to_z w64 (of_z w64 d)), Err c.in-Err.field-0.refusal) e.result
     (record { state = λ l. ap (λ (x : ℤ). in_use f l t (runs.proposing (shown (box_value w)) x)) read; answer = refl }))

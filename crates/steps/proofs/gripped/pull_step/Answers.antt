@@ -20,14 +20,14 @@ slice_bounds-proposed-end g c =
     let rp = with_items_is lists.proposal c.pull.new.proposal (c.pull.auto.proposal ∙ c.deref_mut.ensures.len) in
     let rk = with_items_is lists.working c.pull.new.working (c.pull.auto.working ∙ c.deref_mut-2.ensures.len) in
     let after : Lists g.row.K.Denot = record { values = lists.values; relations = lists.relations; constants = lists.constants; proposal = with_items lists.proposal c.pull.new.proposal; working = with_items lists.working c.pull.new.working; spare = lists.spare } in
-    let s = gripped_sheet c.args.grip in
-    let w = shown (box_value c.args.workings) in
+    let s = gripped_sheet c.args.held.grip in
+    let w = shown (box_value c.args.held.workings) in
     let wishes = map f c.args.wishes.now in
     let e = c.in-Ok.ensures in
     let r = room_for f size lists after s (runs.gripped w) w wishes
     c.deref.result.now c.deref-2.result.now c.deref-3.result.now (shown c.deref-4.result.now) c.deref_mut.result.now c.deref_mut-2.result.now
     c.deref.ensures.value c.deref-2.ensures.value c.deref-3.ensures.value (ap shown c.deref-4.ensures) c.deref_mut.ensures.value c.deref_mut-2.ensures.value refl refl refl refl
-    (gripped_sheet c.in-Ok.pulled.0) c.in-Ok.pulled.1 e.result in
+    (gripped_sheet c.in-Ok.grip) c.in-Ok.denominator e.result in
     let a = length-map c.deref_mut.result.now f in
     let v = ap length (c.as_slice.ensures.value ∙ rp) in
     omega (arith, r, a, v, c.pull.auto.proposal, c.count-n.ensures)
@@ -40,12 +40,12 @@ returns-in-Ok g c =
     let rp = with_items_is lists.proposal c.pull.new.proposal (c.pull.auto.proposal ∙ c.deref_mut.ensures.len) in
     let rk = with_items_is lists.working c.pull.new.working (c.pull.auto.working ∙ c.deref_mut-2.ensures.len) in
     let after : Lists g.row.K.Denot = record { values = lists.values; relations = lists.relations; constants = lists.constants; proposal = with_items lists.proposal c.pull.new.proposal; working = with_items lists.working c.pull.new.working; spare = lists.spare } in
-    let s = gripped_sheet c.args.grip in
-    let w = shown (box_value c.args.workings) in
+    let s = gripped_sheet c.args.held.grip in
+    let w = shown (box_value c.args.held.workings) in
     let wishes = map f c.args.wishes.now in
     let e = c.in-Ok.ensures in
-    let t = gripped_sheet c.in-Ok.pulled.0 in
-    let d = c.in-Ok.pulled.1 in
+    let t = gripped_sheet c.in-Ok.grip in
+    let d = c.in-Ok.denominator in
     let fits : SFits w64 d = search rules in
     let read = to_z-of_z w64 d fits in
     let n = c.count-n.result in
@@ -70,11 +70,11 @@ returns-in-Err g c =
     let rp = with_items_is lists.proposal c.pull.new.proposal (c.pull.auto.proposal ∙ c.deref_mut.ensures.len) in
     let rk = with_items_is lists.working c.pull.new.working (c.pull.auto.working ∙ c.deref_mut-2.ensures.len) in
     let after : Lists g.row.K.Denot = record { values = lists.values; relations = lists.relations; constants = lists.constants; proposal = with_items lists.proposal c.pull.new.proposal; working = with_items lists.working c.pull.new.working; spare = lists.spare } in
-    let s = gripped_sheet c.args.grip in
-    let w = shown (box_value c.args.workings) in
+    let s = gripped_sheet c.args.held.grip in
+    let w = shown (box_value c.args.held.workings) in
     let wishes = map f c.args.wishes.now in
     let e = c.in-Err.ensures in
     unpulled_step f size lists after s (runs.gripped w) w wishes
     c.deref.result.now c.deref-2.result.now c.deref-3.result.now (shown c.deref-4.result.now) c.deref_mut.result.now c.deref_mut-2.result.now
     c.deref.ensures.value c.deref-2.ensures.value c.deref-3.ensures.value (ap shown c.deref-4.ensures) c.deref_mut.ensures.value c.deref_mut-2.ensures.value refl refl refl refl
-    (ap (map f) rp ∙ e.proposal) (ap (map f) rk ∙ e.working) (gripped_sheet c.in-Err.no.back) c.in-Err.no.refusal _ e.result (record { state = λ l. refl; answer = refl })
+    (ap (map f) rp ∙ e.proposal) (ap (map f) rk ∙ e.working) (gripped_sheet c.in-Err.field-0.back) c.in-Err.field-0.refusal _ e.result (record { state = λ l. refl; answer = refl })

@@ -1,14 +1,12 @@
-use Rattle.std.proofs.Common.{ℕ, sym, arith}
-use Rattle.whole.specs.Lists.{coord}
+use Rattle.std.proofs.Common.{List, [], ℤ, ◌∙◌, rules}
+use Rattle.std.proofs.lemmas.Iterator.{YieldsList-from_slice}
+use Rattle.std.proofs.lemmas.Iterator.Search.{any_from_yields_List}
+use Rattle.whole.specs.Lists.{at}
 use Rattle.whole.specs.Tests.{any, above}
-use Rattle.whole.proofs.Tests.{some-any}
-use Rattle.table.proofs.Places.{any_more}
+use Rattle.whole.proofs.Chains.{any_list}
 use Rattle.table.proofs.limits.some_row_above.Goals as goal
 
-pub returns-then-some_above : goal.returns-then-some_above
-returns-then-some_above c =
-    sym (some-any c.args.m (λ (i : ℕ). any c.args.n (λ (s : ℕ). above c.args.most (coord c.args.rows.now i s))) c.loop-i.i (omega arith) (sym c.if-some_above.ensures))
-
-pub loop-i-preserved : goal.loop-i-preserved
-loop-i-preserved c =
-    any_more c.loop-i.i (λ (i : ℕ). any c.args.n (λ (s : ℕ). above c.args.most (coord c.args.rows.now i s))) c.loop-i.invariant (sym c.if-some_above.ensures)
+pub returns : goal.returns
+returns c =
+    let test = λ (xs : List ℤ). any c.args.n (λ s. above c.args.most (at xs s)) in
+    any_from_yields_List test _ _ _ c.any.ensures.ran (YieldsList-from_slice c.args.rows.now cc) (λ x b q k. search rules) ∙ any_list test [] c.args.rows.now

@@ -1,15 +1,25 @@
-use Rattle.std.proofs.Common.{ℕ, ◌+◌, ◌++◌, drop, set, replicate, ℤ, pos, sym, ap, ◌∙◌, arith, w64, SFits, rules}
+use Rattle.std.proofs.Common.{ℕ, ◌+◌, ◌++◌, length, drop, set, replicate, ℤ, pos, sym, ap, ◌∙◌, arith, w64, SFits, rules}
 use Rattle.std.proofs.lemmas.Int.{to_z-of_z}
 use Rattle.whole.specs.Lists.{tab, at, coord}
 use Rattle.whole.proofs.Lists.{tab-length}
 use Rattle.linear.specs.Gram.{gram}
+use Rattle.table.proofs.Inside.{Inside, inside}
 use Rattle.table.proofs.Places.{put_more, tab_more}
 use Rattle.table.proofs.start.first_row.Goals as goal
+use Rattle.table.proofs.start.first_row.Goals.{Start}
+
+within : (c : Start) → Inside (length c.args.shares.now) (length c.args.rows.now) c.args.shares.now c.args.rows.now
+within c = inside _ _ c.args.shares.now c.args.rows.now c.requires.limits
+
+pub weighted_sum-requires : goal.weighted_sum-requires
+weighted_sum-requires c =
+    let i = within (goal.at.weighted_sum-requires c).Start in
+    record { few = i.parameters; shares = i.shares; rows = (i.rows c.args.i c.requires.row, i.rows c.loop-j.j c.loop-j-test.true) }
 
 pub loop-j-preserved : goal.loop-j-preserved
 loop-j-preserved c =
-    let f : ℕ → ℤ = gram c.args.n (at c.args.shares.now) (coord c.args.rows.now) c.args.i in
-    let few = c.requires.sizes.1.0 in
+    let f : ℕ → ℤ = gram (length c.args.shares.now) (at c.args.shares.now) (coord c.args.rows.now) c.args.i in
+    let few = (within (goal.at.loop-j-preserved c).Start).relations in
     let fr : SFits w64 c.weighted_sum.result = search rules in
     let back = to_z-of_z w64 c.weighted_sum.result fr ∙ c.weighted_sum.ensures in
     ap (λ (x : ℤ). set c.loop-j.row.cells c.loop-j.j x) back

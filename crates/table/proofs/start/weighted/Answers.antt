@@ -10,11 +10,6 @@ module _ (c : goal.Start) where
   both : nat_abs (c.args.v *ℤ (c.args.x *ℤ c.args.y)) ≤ 12000000
   both = product-≤ c.args.v (c.args.x *ℤ c.args.y) 12 1000000 c.requires.0 inner
 
-pub overflow_mul-result : goal.overflow_mul-result
-overflow_mul-result c =
-    let fx = c.ranges.x in let fy = c.ranges.y in
-    simp to_z-of_z (fits _ (omega (arith, inner c)))
-
 pub overflow_mul-result-2 : goal.overflow_mul-result-2
 overflow_mul-result-2 c =
     let fv = c.ranges.v in let fx = c.ranges.x in let fy = c.ranges.y in

@@ -4,4 +4,4 @@ use Rattle.whole.specs.Sums.{sum}
 use Rattle.table.proofs.start.weighted_sum.Given as goal
 
 abbrev pub invariant-loop-s : goal.invariant-loop-s
-invariant-loop-s l = (l.sum ≡ sum l.s (λ s. at l.v s *ℤ (at l.x s *ℤ at l.y s))) × (nat_abs l.sum ≤ 12000000 * l.s)
+invariant-loop-s l = (l.sum ≡ sum l.s (λ s. at l.shares s *ℤ (at l.xs s *ℤ at l.ys s))) × (nat_abs l.sum ≤ 12000000 * l.s)

@@ -1,36 +1,34 @@
-use Rattle.std.proofs.Common.{◌≡◌, ◌<◌, map, length, take, set, sym, ap, ◌∙◌, arith, length-set}
-use Rattle.rules.specs.Sheets.{relation_at}
-use Rattle.workings.proofs.Counting.{chosen-left, chosen_more, crowded, chosen_all, chosen-many}
+use Rattle.std.proofs.Common.{◌≡◌, ◌==◌, ℕ, false, ◌≤◌, ◌+◌, List, ℤ, map, length, take, ap, ◌∙◌, arith}
+use Rattle.std.proofs.lemmas.Bool.Decides.{nat_tests}
+use Rattle.arrayvec.specs.ArrayVec.{ArrayVec, array_vec_len}
+use Rattle.workings.proofs.Counting.{chosen-left, chosen_more, crowded}
 use Rattle.workings.proofs.choosing.choose.Goals as goal
-use Rattle.workings.proofs.choosing.choose.Goals.{then-relation_counts+else-m-eq-MOST_COUNTED, else-relation_counts}
+use Rattle.workings.proofs.choosing.choose.Goals.{then-relation_counts+else-is_full, else-relation_counts}
 
-pub returns-then-m-eq-MOST_COUNTED : goal.returns-then-m-eq-MOST_COUNTED
-returns-then-m-eq-MOST_COUNTED c =
-    let twelve : c.loop-i.m ≡ 12 = omega arith in
-    let e = crowded (length c.args.roles.now) c.args.roles.now c.args.relations.now c.loop-i.i c.loop-i-test.true c.loop-i.rows c.loop-i.m c.loop-i.invariant.0 c.if-relation_counts.ensures twelve c.loop-i.invariant.2 in
-    record { rows = (cc); many = tt }
+pub returns-then-is_full : goal.returns-then-is_full
+returns-then-is_full c =
+    let twelve : length c.loop-relation.chosen.items ≡ 12 = grind (arith, nat_tests, c.if-is_full.ensures.value) in
+    record {
+      rows = crowded (length c.args.roles.now) c.args.roles.now c.args.relations.now c.loop-relation.relation-index c.loop-relation-test.true c.loop-relation.chosen.items c.loop-relation.invariant.0 c.if-relation_counts.ensures twelve;
+      many = tt;
+    }
 
-pub loop-i-preserved : goal.loop-i-preserved
-loop-i-preserved c =
-    let few = c.loop-i.invariant.1 in
-    let twelve = c.loop-i.invariant.2 in
+-- a list that is not full has room for one more
+room : (n : ℕ) → n ≤ 12 → false ≡ (n == 12) → n + 1 ≤ 12
+room n h e = grind (arith, nat_tests)
+
+pub loop-relation-preserved : goal.loop-relation-preserved
+loop-relation-preserved c =
+    let n = length c.args.roles.now in
     elim c.if-relation_counts.branch [
-      | then-relation_counts+else-m-eq-MOST_COUNTED w ↦
-          let ne = w.if-m-eq-MOST_COUNTED.false in
-          let room : c.loop-i.m < length c.loop-i.rows = omega arith in
-          let put : c.if-relation_counts.rows ≡ set c.loop-i.rows c.loop-i.m (relation_at c.args.relations.now c.loop-i.i).coefficients = cc w.rows-is in (
-            (λ j. map (take (length c.args.roles.now)) (take (w.m-is j) (put j)))
-                ∙ chosen_more (length c.args.roles.now) c.args.roles.now c.args.relations.now c.loop-i.i c.loop-i-test.true c.loop-i.rows c.loop-i.m c.loop-i.invariant.0 (sym w.if-relation_counts.true ∙ c.relation_counts.ensures) room,
-            (let e = w.m-is in omega arith),
-            ap length put ∙ length-set c.loop-i.rows c.loop-i.m _ ∙ twelve,
-          )
+      | then-relation_counts+else-is_full w ↦ (
+        ap (λ (v : ArrayVec (List ℤ)). map (take n) v.items) w.chosen-is ∙ ap (map (take n)) w.push.ensures.items
+            ∙ chosen_more n c.args.roles.now c.args.relations.now c.loop-relation.relation-index c.loop-relation-test.true c.loop-relation.chosen.items c.loop-relation.invariant.0 w.if-relation_counts.ensures,
+        (let e = ap array_vec_len w.chosen-is in let b = room (array_vec_len c.loop-relation.chosen) c.loop-relation.invariant.1 w.if-is_full.ensures.value in omega (arith, w.push.ensures.len)),
+      )
       | else-relation_counts w ↦ (
-        (λ j. map (take (length c.args.roles.now)) (take (w.m-is j) (w.rows-is j)))
-            ∙ chosen-left (length c.args.roles.now) c.args.roles.now c.args.relations.now c.loop-i.i c.loop-i-test.true c.loop-i.rows c.loop-i.m c.loop-i.invariant.0 (sym w.if-relation_counts.false ∙ c.relation_counts.ensures),
-        (let e = w.m-is in omega arith),
-        ap length w.rows-is ∙ twelve,
+        ap (λ (v : ArrayVec (List ℤ)). map (take n) v.items) w.chosen-is
+            ∙ chosen-left n c.args.roles.now c.args.relations.now c.loop-relation.relation-index c.loop-relation-test.true c.loop-relation.chosen.items c.loop-relation.invariant.0 w.if-relation_counts.ensures,
+        (let e = ap array_vec_len w.chosen-is in omega arith),
       )
     ]
-
-pub returns : goal.returns
-returns c = record { rows = chosen_all (length c.args.roles.now) c.args.roles.now c.args.relations.now c.loop-i.i c.loop-i.rows c.loop-i.m c.loop-i.invariant.0 c.loop-i-test.false c.loop-i.invariant.1 c.loop-i.invariant.2; many = chosen-many (length c.args.roles.now) c.args.roles.now c.args.relations.now c.loop-i.i c.loop-i.rows c.loop-i.m c.loop-i.invariant.0 c.loop-i-test.false c.loop-i.invariant.1 c.loop-i.invariant.2 }

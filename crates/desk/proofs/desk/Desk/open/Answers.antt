@@ -10,15 +10,15 @@ use Rattle.sheets.specs.Shown.{numbers}
 use Rattle.steps.proofs.Steps.{holding}
 use Rattle.desk.proofs.desk.Desk.open.Goals as goal
 
-pub returns-in-Ok-open : goal.returns-in-Ok-open
-returns-in-Ok-open g c =
+pub returns : goal.returns
+returns g c =
     let f = g.K.Kind.coords in
-    let lists = c.in-Ok.lists in
-    let F = c.in-Ok.ensures in
-    let s = numbers c.in-Ok-open.sheet in
+    let lists = c.in_ok-lists.lists in
+    let F = c.in_ok-lists.ensures in
+    let s = numbers c.in_ok-sheet.sheet in
     let lv : length c.open.new.values ≡ vec_len lists.values = search rules in
     let rv = with_items_is lists.values c.open.new.values lv in
-    let e = c.in-Ok-open.ensures ∙ ap (λ (vs : List Coords). opening g.K.Kind.size c.args.count vs) (ap (map f) c.deref_mut.ensures.value ∙ F.values) in (
+    let e = c.in_ok-sheet.ensures ∙ ap (λ (vs : List Coords). opening g.K.Kind.size c.args.count vs) (ap (map f) c.deref_mut.ensures.value ∙ F.values) in (
       s,
       sym (ap (λ (o : Result rules.Sheet Refusal × List Coords). o.0) e),
       holding f (record { values = with_items lists.values c.open.new.values; relations = lists.relations; constants = lists.constants; proposal = lists.proposal; working = lists.working; spare = lists.spare })

@@ -1,4 +1,4 @@
-use Rattle.std.proofs.Common.{ℕ, Bool, cond, List, map, ℤ, Ok, Err, Result, sym, ap, ◌∙◌, ap₂, arith, w64, to_z, of_z}
+use Rattle.std.proofs.Common.{ℕ, Bool, cond, List, ◌++◌, take, drop, zero-add, map, ℤ, Ok, Err, Result, sym, ap, ◌∙◌, ap₂, w64}
 use Rattle.std.proofs.lemmas.Int.{to_z-of_z}
 use Rattle.std.proofs.lemmas.Bool.{or_from}
 use Rattle.records.specs.declared.refusal.Refusal.{Refusal}
@@ -7,20 +7,9 @@ use Rattle.rules.specs.Values.{Coords, written}
 use Rattle.rules.specs.Sheets as rules
 use Rattle.rules.specs.Sheets.{unfit_values, unfit}
 use Rattle.grips.specs.Shown.{handing_back}
-use Rattle.std.proofs.lemmas.List.{length-map}
 use Rattle.sheets.specs.Shown.{numbers}
-use Rattle.sheets.proofs.Fit.{fit_values, long, map-paste}
+use Rattle.sheets.proofs.Fit.{map-paste}
 use Rattle.grips.proofs.ending.Grip+Proposed.keep.Goals as goal
-
-pub copy_front-requires : goal.copy_front-requires
-copy_front-requires g c =
-    let f = g.K.Kind.coords in
-    let s = numbers c.args.self.sheet in
-    let n = c.count-n.ensures in
-    let t = long f g.K.Kind.size s c.args.values.now c.args.relations.now c.args.constants.now (sym c.if-unfit.ensures) in
-    let p = fit_values g.K.Kind.size c.count-n.result (to_z w64 (of_z w64 c.args.denominator)) (map f c.args.proposal.now) (sym c.if-unfit_values.ensures) in
-    let m = length-map c.args.proposal.now f in
-    (omega (arith, p.long), omega (arith, t.values_long))
 
 pub returns : goal.returns
 returns g c =
@@ -40,5 +29,5 @@ returns g c =
     let kept : Bool → Result rules.Sheet Refusal × List Coords = λ b. cond b (Err Unfit, vs) (Ok (record { count = c.args.self.sheet.count; bound = c.args.self.sheet.bound; d = e }), written c.args.self.sheet.count ps vs) in
     record {
       result = ap (λ (d : ℤ). Ok (record { count = c.args.self.sheet.count; bound = c.args.self.sheet.bound; d = d })) read ∙ sym (ap (λ (b : Bool). handing_back s (kept b).0) passed);
-      values = ap (map f) c.copy_front.ensures ∙ map-paste f c.args.values.now 0 c.args.proposal.now c.count-n.result ∙ ap (λ (k : ℕ). written k ps vs) n ∙ sym (ap (λ (b : Bool). (kept b).1) passed);
+      values = ap (λ (xs : List g.row.K.Denot). map f (xs ++ drop c.count-n.result c.args.values.now)) c.copy_from_slice.ensures.after ∙ ap (λ (k : ℕ). map f (take c.count-n.result c.args.proposal.now ++ drop k c.args.values.now)) (sym (zero-add c.count-n.result)) ∙ map-paste f c.args.values.now 0 c.args.proposal.now c.count-n.result ∙ ap (λ (k : ℕ). written k ps vs) n ∙ sym (ap (λ (b : Bool). (kept b).1) passed);
     }

@@ -26,10 +26,7 @@ write_spares-spares-requires g c =
     let told = accepted size s vs rs qs c.args.roles.now c.args.spare.now w c.in-Ok.ensures in
     let t = long f size s c.args.values.now rs c.args.constants.now told.fine in
     let rows : c.args.sheet.bound ≤ length rs = omega (arith, t.relations_long, c.args.sheet.room) in
-    record {
-      bound = omega (arith, c.bound-bound.ensures, rows, c.mark_all.auto.relations);
-      room = few size s vs rs qs c.args.roles.now c.args.spare.now w told rows _ c.roles.ensures.value c.bound-bound.result c.bound-bound.ensures c.mark_all.new.relations c.mark_all.ensures;
-    }
+    few size s vs rs qs c.args.roles.now c.args.spare.now w told rows c.bound-bound.result c.bound-bound.ensures c.mark_all.new.relations c.mark_all.auto.relations c.mark_all.ensures
 
 pub returns : goal.returns
 returns g c =
@@ -44,10 +41,10 @@ returns g c =
     let told = accepted size s vs rs qs c.args.roles.now c.args.spare.now w e in
     let t = long f size s c.args.values.now rs c.args.constants.now told.fine in
     let rows : c.args.sheet.bound ≤ length rs = omega (arith, t.relations_long, c.args.sheet.room) in
-    let marked-so = marks size s vs rs qs c.args.roles.now c.args.spare.now w told rows _ c.roles.ensures.value c.bound-bound.result c.bound-bound.ensures c.mark_all.new.relations c.mark_all.ensures in
+    let marked-so = marks size s vs rs qs c.args.roles.now c.args.spare.now w told rows c.bound-bound.result c.bound-bound.ensures c.mark_all.new.relations c.mark_all.auto.relations c.mark_all.ensures in
     record {
       implied = λ i l. subst (λ (after : List Relation). ((rules.relation_at after i).mark ≡ Spare) ↔ Implied s rs qs c.args.roles.now i) (sym marked-so) (spare-exactly size s vs rs qs c.args.roles.now c.args.spare.now w (sym e) i l);
       result = ap (λ (r : Result rules.Workings Refusal). handing_back s (image (λ (v : rules.Workings). (s, v)) r)) e;
       marks = marked-so ∙ ap (λ (r : Result rules.Workings Refusal). marks_after r s rs qs) e;
-      spares = told-spares size s vs rs qs c.args.roles.now c.args.spare.now w told rows _ c.roles.ensures.value c.bound-bound.result c.bound-bound.ensures c.mark_all.new.relations c.mark_all.ensures c.write_spares-spares.result c.write_spares-spares.new.spare c.write_spares-spares.ensures.count c.write_spares-spares.ensures.list;
+      spares = told-spares size s vs rs qs c.args.roles.now c.args.spare.now w told rows c.bound-bound.result c.bound-bound.ensures c.mark_all.new.relations c.mark_all.auto.relations c.mark_all.ensures c.write_spares-spares.result c.write_spares-spares.new.spare c.write_spares-spares.ensures.count c.write_spares-spares.ensures.list;
     }

@@ -1,8 +1,9 @@
-use Rattle.std.proofs.Common.{◌<◌, map, length, sym, arith, rules}
+use Rattle.std.proofs.Common.{◌<◌, map, length, sym, ◌∙◌, arith, rules}
 use Rattle.std.proofs.lemmas.List.{map-set}
 use Rattle.sheets.specs.Shown.{numbers}
 use Rattle.sheets.proofs.Accepted.{bindable}
 use Rattle.sheets.proofs.Fit.{long}
+use Rattle.sheets.proofs.Writing.{recorded_front}
 use Rattle.sheets.proofs.record.Sheet.bind.Given as given
 use Rattle.sheets.proofs.record.Sheet.bind.Goals as goal
 
@@ -25,4 +26,6 @@ returns g c =
     let f = g.K.Kind.coords in
     let e = c.in_ok-bind_answer.ensures in
     let m = map-set f c.args.constants.now c.args.self.now.bound c.args.q in
-    rw (sym e, c.record_of.ensures, m)
+    let p = bindable g.K.Kind.size (numbers c.args.self.now) (map f c.args.values.now) c.args.relations.now (map f c.args.constants.now) c.args.coefficients.now (f c.args.q) _ e in
+    let r = c.record_of.ensures ∙ recorded_front c.args.self.now.count c.args.coefficients.now p.1 in
+    rw (sym e, r, m)

@@ -1,17 +1,12 @@
 use Rattle.std.proofs.Common.{ℕ, ◌*◌, map, ℤ, nat_abs, sym, ap, ◌∙◌, w64}
 use Rattle.std.proofs.lemmas.List.{length-map}
 use Rattle.std.proofs.lemmas.Int.{to_z-of_z}
-use Rattle.std.proofs.lemmas.Bool.{lt-ltb, le-ltb}
+use Rattle.std.proofs.lemmas.Bool.{le-ltb}
 use Rattle.whole.specs.Lists.{coord}
 use Rattle.whole.specs.Tests.{any, above}
 use Rattle.sheets.proofs.Sizes.{front_above}
 use Rattle.rules.specs.Sheets.{bad_denominator}
 use Rattle.sheets.proofs.record.limits.unfit_values.Goals as goal
-
-pub returns-then-values-n : goal.returns-then-values-n
-returns-then-values-n g c =
-    let n = length-map c.args.values.now g.K.Kind.coords in
-    rw (n, lt-ltb _ _ c.if-values-n.true)
 
 pub returns : goal.returns
 returns g c =

@@ -1,17 +1,15 @@
-use Rattle.std.proofs.Common.{refl, arith}
-use Rattle.words.proofs.Cards.{lines_none, line_inner, line_last}
+use Rattle.std.proofs.Common.{◌≡◌, ◌∷◌, take, drop, sym, ◌∙◌, false-eqb}
+use Rattle.words.specs.Lines.{lines}
+use Rattle.words.proofs.Cards.{line_inner, line_last}
 use Rattle.words.proofs.lines.Lines.next.Goals as goal
-use Rattle.words.proofs.lines.Lines.next.Goals.{then-end-self, else-end-self}
-
-pub returns-then-self : goal.returns-then-self
-returns-then-self c = (lines_none c.args.self.now.card.now c.args.self.now.at c.if-self.true, refl)
+use Rattle.words.proofs.lines.Lines.next.Goals.{in-Some, in-None}
 
 pub returns : goal.returns
 returns c =
-    let card = c.args.self.now.card.now in
-    let start = c.args.self.now.at in
-    let told = c.byte_from-end.ensures in
-    elim c.if-end-self.branch [
-      | then-end-self w ↦ line_inner card start _ told.low told.none c.if-end-self.self (omega (arith, w.self-is)) w.if-end-self.true (told.stops w.if-end-self.true)
-      | else-end-self w ↦ line_last card start _ told.low told.none c.if-end-self.self (omega (arith, w.self-is)) (omega arith) (omega (arith, told.high, w.if-end-self.false))
-    ]
+    let card = c.args.self.now.rest.now in
+    let size = c.match-place_of.size in
+    let cut : lines card ≡ take size card ∷ lines (drop size card) = elim c.match-place_of.branch [
+      | in-Some w ↦ rw w.size-is (line_inner card w.in-Some.end (cc))
+      | in-None w ↦ rw w.size-is (line_last card (false-eqb _ 0 c.if-is_empty.ensures) (cc))
+    ] in
+    cut ∙ (λ i. sym c.split_at.ensures.front i ∷ lines (sym c.split_at.ensures.back i))

@@ -1,6 +1,6 @@
 use Rattle.std.proofs.Common.{sym, ◌∙◌, arith}
 use Rattle.table.proofs.Grids.{entry-grid}
-use Rattle.workings.proofs.Numbers.{casts, reads, no_entry}
+use Rattle.workings.proofs.Numbers.{reads, no_entry}
 use Rattle.workings.proofs.workings.Workings.diagonal.Goals as goal
 
 pub returns-then-i-self : goal.returns-then-i-self
@@ -12,6 +12,3 @@ returns-then-i-self c =
 
 pub returns-else-i-self : goal.returns-else-i-self
 returns-else-i-self c = record { value = sym (no_entry c.args.self.now.m c.args.self.now.table c.args.i c.args.i c.if-i-self.false); most = omega arith }
-
-pub overflow_cast-result : goal.overflow_cast-result
-overflow_cast-result c = casts _ (c.args.self.now.within c.args.i c.args.i c.if-i-self.true (let h = c.if-i-self.true in omega arith)) (c.args.self.now.upright c.args.i c.if-i-self.true)
