@@ -9,11 +9,19 @@ pub struct Pair {
     pub y: i64,
 }
 
-fn point(p: Pair) -> Point {
-    Point { x: p.x, y: p.y }
+impl From<Pair> for Point {
+    fn from(p: Pair) -> Point {
+        Point { x: p.x, y: p.y }
+    }
 }
 
-// Writes each u + k × v that fits to its place, and tells whether all fit.
+impl From<Point> for Pair {
+    fn from(p: Point) -> Pair {
+        Pair { x: p.x, y: p.y }
+    }
+}
+
+// Writes each u + k × v that fits to its place, and tells whether all fit, since C has no `Result`.
 #[unsafe(no_mangle)]
 pub extern "C" fn valetwren_plus_scaled(
     us: &[Pair],
@@ -23,8 +31,8 @@ pub extern "C" fn valetwren_plus_scaled(
 ) -> bool {
     let mut fit = true;
     for (((u, k), v), w) in us.iter().zip(ks).zip(vs).zip(out.iter_mut()) {
-        match point(*u).plus_scaled(*k, point(*v)) {
-            Ok(sum) => *w = Pair { x: sum.x, y: sum.y },
+        match Point::from(*u).plus_scaled(*k, Point::from(*v)) {
+            Ok(sum) => *w = Pair::from(sum),
             Err(_) => fit = false,
         }
     }
@@ -36,7 +44,7 @@ pub extern "C" fn valetwren_plus_scaled(
 pub extern "C" fn valetwren_sum_scaled(ks: &[i64], vs: &[Pair]) -> Pair {
     let mut sum = Point { x: 0, y: 0 };
     for (k, v) in ks.iter().zip(vs) {
-        sum = combine(sum, *k, point(*v));
+        sum = combine(sum, *k, Point::from(*v));
     }
-    Pair { x: sum.x, y: sum.y }
+    Pair::from(sum)
 }

@@ -37,7 +37,7 @@ pub extern "C" fn valetwren_eliminate(n: usize, m: usize, given: &Given, out: &m
     }
 }
 
-// The last number of the finished table, or 0 less the number of the refusal: the elimination without a copy of its table.
+// The last number of the finished table, or, C having no `Result`, 0 less the number of the refusal: the elimination without a copy of its table.
 #[unsafe(no_mangle)]
 pub extern "C" fn valetwren_last_number(n: usize, m: usize, given: &Given) -> i64 {
     match finished(n, m, given) {

@@ -81,7 +81,7 @@ fn gripped(sheet: &Sheet, relations: &[Relation], codes: &[i64]) -> Result<Worki
 }
 
 // Pulls to one list of wishes after the other: each proposal goes to `out`, and its denominator, or 0 less the number of
-// the refusal, to `answers`.
+// the refusal, to `answers`: C has no `Result`.
 fn pull_each<K: Kind>(
     sheet: &Sheet,
     values: &[K],

@@ -9,7 +9,7 @@ use forms::{Written, append_bytes};
 use lines::Line;
 use words::Fault;
 
-// The call that the line asks for.
+// The call that the line asks for. No `From`: both types are of crates below.
 pub(crate) fn verb_of<V: Written>(line: &Line<V>) -> Verb
     ensures { result ≡ verb_of (said line.now) }
 {

@@ -1,6 +1,5 @@
 // One call on a desk. A call and a state are values of closed enums, whose every pair the rules answer: a match says so, a table
-// of closures would not.
-ghost use Rattle.std.specs.Prelude.{◌≡◌, Err};
+// of closures would not. The heap is handed on, as to everything that takes memory.
 ghost use Rattle.rules.specs.Runs as runs;
 ghost use Rattle.calls.specs.Shown.{call_of};
 ghost use Rattle.grips.specs.Shown.{gripped_sheet};
@@ -11,12 +10,12 @@ ghost use Rattle.desk.specs.Desks.{Called, use_of};
 
 use crate::desk::Desk;
 use calls::{Answer, Call, Given};
-use grips::{Proposed, Unproposed};
+use grips::Unproposed;
 use kinds::Kind;
 use records::{Refusal, Role};
 use sheets::Sheet;
 use std::alloc::{AllocError, Global};
-use steps::{Held, Lists, State, bind_step, grip_step, keep_step, pull_step, unbind_step};
+use steps::{Held, Lists, Offer, State, bind_step, grip_step, keep_step, pull_step, unbind_step};
 
 // A sheet without a grip takes a binding, an unbinding or a grip.
 fn free_step<K: Kind>(
@@ -60,18 +59,29 @@ fn gripped_step<K: Kind>(
 fn proposed_step<K: Kind>(
     heap: Global,
     lists: &mut Lists<K>,
-    held: Held<Proposed>,
-    denominator: i64,
+    offer: Offer,
     call: &Call<K, Role>,
 ) -> Result<(State, Answer<K>), AllocError>
-    ensures { SteppedIn K.coords (runs.step K.size (in_use K.coords lists.old (gripped_sheet held.grip) (runs.proposing (shown held.workings.value) denominator)) (call_of K.coords call.now)) lists.new result }
+    ensures { SteppedIn K.coords (runs.step K.size (in_use K.coords lists.old (gripped_sheet offer.held.grip) (runs.proposing (shown offer.held.workings.value) offer.denominator)) (call_of K.coords call.now)) lists.new result }
 {
     match call {
-        Call::Pull(wishes) => pull_step(heap, lists, held, wishes),
-        Call::Keep => Ok(keep_step(lists, held, denominator)),
-        Call::Drop => Ok((State::Free(held.release()), Ok(Given::Nothing))),
+        Call::Pull(wishes) => {
+            let Offer {
+                held,
+                denominator: _,
+            } = offer;
+            pull_step(heap, lists, held, wishes)
+        }
+        Call::Keep => Ok(keep_step(lists, offer)),
+        Call::Drop => {
+            let Offer {
+                held,
+                denominator: _,
+            } = offer;
+            Ok((State::Free(held.release()), Ok(Given::Nothing)))
+        }
         Call::Bind(_, _) | Call::Unbind(_) | Call::Grip(_) => Ok((
-            State::Proposed(held, denominator),
+            State::Proposed(offer),
             Err(Refusal::NotOpen),
         )),
     }
@@ -90,9 +100,7 @@ impl<K: Kind> Desk<K> {
         let stepped = match state {
             State::Free(sheet) => free_step(heap, &mut lists, sheet, call),
             State::Gripped(held) => gripped_step(heap, &mut lists, held, call),
-            State::Proposed(held, denominator) => {
-                proposed_step(heap, &mut lists, held, denominator, call)
-            }
+            State::Proposed(offer) => proposed_step(heap, &mut lists, offer, call),
         };
         let (state, answer) = stepped?;
         Ok((Desk { lists, state }, answer))

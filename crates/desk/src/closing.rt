@@ -4,7 +4,7 @@ ghost use Rattle.desk.specs.Desks.{use_of};
 
 use crate::desk::Desk;
 use kinds::Kind;
-use steps::State;
+use steps::{Offer, State};
 
 // A sheet's values when its desk is closed: numerators, one to a parameter, over a denominator.
 #[derive(Drop)]
@@ -23,7 +23,12 @@ impl<K: Kind> Desk<K> {
         let sheet = match state {
             State::Free(sheet) => sheet,
             State::Gripped(held) => held.release(),
-            State::Proposed(held, _) => held.release(),
+            State::Proposed(
+                Offer {
+                    held,
+                    denominator: _,
+                },
+            ) => held.release(),
         };
         let mut values = lists.values;
         values.truncate(sheet.count());

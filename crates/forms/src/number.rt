@@ -1,7 +1,6 @@
 // A number as a value of its own.
 ghost use Rattle.std.specs.Prelude.{Decides};
-ghost use Rattle.words.specs.Numbers.{Number, Short, Exactly};
-ghost use Rattle.forms.specs.Forms.{Says};
+ghost use Rattle.words.specs.Numbers.{Number, Short};
 ghost use Rattle.forms.specs.Laws.{number_laws};
 
 use super::written::Written;

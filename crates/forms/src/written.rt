@@ -4,7 +4,8 @@ ghost use Rattle.forms.specs.Forms.{Forms, Says, PutWord};
 
 use words::{Fault, Word};
 
-// Values that one word writes.
+// Values that one word writes. `parse` and `put` are no `FromStr` and `Display`: numbers are among the values, and `put` refuses
+// one that no word writes.
 pub trait Written: Copy {
     // which bytes write which value
     ghost form: { List ℕ → Self → Type 0 };

@@ -1,4 +1,4 @@
-// The grip on a sheet: the calls that make it, pull with it and end it.
+// The grip on a sheet: the calls that make it, pull with it and end it. The caller lends each call its lists one by one.
 #![tactic(auto)]
 
 mod ending;

@@ -15,7 +15,7 @@ use workings::Workings;
 
 const SPARE_PLACES: usize = 12;
 
-// What an accepted grip gives: the grip, its workings, and how many places of the spare list were written.
+// What an accepted grip gives: the grip, its workings, and how many places of the spare list, which is the caller's, were written.
 pub struct Gripped {
     pub grip: Grip<Unproposed>,
     pub workings: Workings,

@@ -15,7 +15,8 @@ pub struct Grip<P> {
     pub(crate) state: P,
 }
 
-// What a refused call hands back, and why.
+// What a refused call hands back, and why. The token or the sheet must go back with it, so that a refusal below is matched and not
+// passed on by `?`.
 pub struct Refused<T> {
     pub back: T,
     pub refusal: Refusal,

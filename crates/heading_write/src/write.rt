@@ -1,4 +1,4 @@
-// The first line of a card, written.
+// The first line of a card, written. Other lines are written from a count and for a kind of value, this one from lent names.
 ghost use Rattle.std.specs.Prelude.{◌≡◌, ◌++◌};
 ghost use Rattle.words.specs.Faults.{Done};
 ghost use Rattle.words.specs.Words.{spaced};

@@ -6,7 +6,7 @@ const MAX: i64 = 9_223_372_036_854_775_807;
 
 const MIN: i64 = -9_223_372_036_854_775_808;
 
-// Whether there is a value, or the number of the refusal.
+// Whether there is a value, or the number of the refusal; too little for a function that two test crates share.
 fn answered<K: Kind>(r: Result<K, Refusal>) -> Result<(), u8> {
     r.map(|_| ()).map_err(|e| e.number())
 }

@@ -45,7 +45,7 @@ pub enum Refusal {
 }
 
 impl Refusal {
-    // The number that a card prints for the refusal.
+    // The number that a card prints for the refusal; a method and no `From`, so that a use says which number is meant.
     pub fn number(self) -> u8
         ensures { result ≡ number_of self }
     {

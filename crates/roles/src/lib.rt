@@ -87,7 +87,8 @@ pub fn relation_counts(coefficients: &[i64], roles: &[Role]) -> bool
         .any(|(role, c)| moves(*c, *role))
 }
 
-// The relations that count: their numbers in bound order, the first 12 of them, and how many there are, also past the twelve.
+// The relations that count: their numbers in bound order, the first 12 of them, and how many there are, also past the
+// twelve, which a list of the twelve would not tell.
 #[derive(Clone, Copy)]
 pub struct Counted {
     pub rows: [usize; 12],

@@ -1,4 +1,4 @@
-// What a card prints for the answers to its lines.
+// What a card prints for the answers to its lines, as bytes; want of memory is told apart, which `Display` does not.
 use calls::{Answer, Given};
 use forms::append_bytes;
 use kinds::{Kind, read};
@@ -27,6 +27,7 @@ fn put_value<K: Kind>(out: &mut Vec<u8>, v: K) -> Result<(), Fault> {
 fn put_spares(out: &mut Vec<u8>, numbers: &[usize]) -> Result<(), Fault> {
     for number in numbers {
         append_bytes(b" ", out)?;
+        // a sheet has at most 24 relations, so that the number fits
         let n = *number;
         if n < 24 {
             append_number(n as i64, out)?;

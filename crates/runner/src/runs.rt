@@ -1,4 +1,4 @@
-// Running a card.
+// Running a card. The heap is handed on, as to everything that takes memory.
 use crate::answers::{put_answer, put_refusal};
 use crate::asking::call_of;
 use calls::Call;
@@ -13,7 +13,8 @@ use words::{Fault, Lines};
 
 const MOST_BYTES: usize = 65_536;
 
-// The calls that a card's lines make, and for each line whether it made one.
+// The calls that a card's lines make, and for each line whether it made one. A series takes its calls as one list, so the lines
+// that made none are told apart from them.
 #[derive(Drop)]
 struct Script<V> {
     calls: Vec<Call<V, Role>>,
@@ -60,7 +61,7 @@ fn run_lines<V: Written + Kind + Drop>(
     Ok(())
 }
 
-// The answers to a card whose first line is good.
+// The answers to a card whose first line is good. That line names the kind when the program runs, so a match picks its type.
 fn run_open(
     heap: Global,
     kind: KindWord,

@@ -1,10 +1,10 @@
 -- Values written one place after the other.
 use Rattle.std.proofs.Common.{◌≡◌, ℕ, zero, suc, ◌+◌, ◌<◌, ◌≤◌, List, [], ◌∷◌, ◌++◌, map, length, take, drop, get_or, set, replicate, ℤ, pos, sym, refl, ap, ◌∙◌, ap₂, zero-add, arith, append-nil}
 use lib.Seq.{paste}
+use Rattle.std.specs.List.{FoldsTo}
 use Rattle.std.proofs.lemmas.List.{map-set, map-append, drop-map, length-map, length-take-le, take_all, drop_all}
 use Rattle.std.proofs.lemmas.List.Edits.{paste_more}
 use Rattle.whole.specs.Lists.{tab}
-use Rattle.whole.proofs.Lists.{tab-length, get_or-tab}
 use Rattle.records.specs.declared.relation.Mark.TheVariants.{Idle}
 use Rattle.rules.specs.Limits.{most_parameters}
 use Rattle.rules.specs.Values.{zeros, written}
@@ -24,11 +24,10 @@ written_more f start xs new s v long room e p =
     map-set f xs s v ∙ ap₂ (λ (l : List (List ℤ)) (x : List ℤ). set l s x) p e
     ∙ ap (λ (j : ℕ). set (paste (map f start) 0 new s) j (get_or new s [])) (sym m) ∙ paste_more (map f start) 0 new s [] q long
 
-pub cleared_more : {K : Type 0} (f : K → List ℤ) (start xs : List K) (n s : ℕ) (v : K) (size : ℕ) → s < n → s < length start → f v ≡ replicate size (pos 0)
-    → map f xs ≡ written s (zeros n size) (map f start) → map f (set xs s v) ≡ written (s + 1) (zeros n size) (map f start)
-cleared_more f start xs n s v size h room e p =
-    let l = tab-length n (λ k. tab size (λ c. pos 0)) in
-    written_more f start xs (zeros n size) s v (omega arith) room (e ∙ replicate-tab size (pos 0) ∙ sym (get_or-tab n (λ k. tab size (λ c. pos 0)) [] s h)) p
+-- a list of values that each were made zero
+pub filled : {K P : Type 0} (f : K → List ℤ) (size : ℕ) (made : P → K → P → Type 0) → ((p : P) (x : K) (q : P) → made p x q → f x ≡ replicate size (pos 0)) → (p : P) (xs : List K) (q : P) → FoldsTo made p xs q → map f xs ≡ zeros (length xs) size
+filled f size made h p [] q e = refl
+filled f size made h p (x ∷ xs) q e = ap₂ (λ (u : List ℤ) (us : List (List ℤ)). u ∷ us) (h p x e.0 e.1 ∙ replicate-tab size (pos 0)) (filled f size made h e.0 xs q e.2)
 
 -- all places are written
 pub written_all : {X : Type 0} (n : ℕ) (new old : List X) → length new ≤ n → length old ≤ n → written n new old ≡ new

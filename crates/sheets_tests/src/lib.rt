@@ -14,7 +14,7 @@ mod tests {
 
     const SEVEN: Length = Length { x: 7 };
 
-    // Acceptance, or the number of the refusal.
+    // Acceptance, or the number of the refusal; too little for a function that two test crates share.
     fn answered<T: Drop>(r: Result<T, Refusal>) -> Result<(), u8> {
         match r {
             Ok(_) => Ok(()),

@@ -85,7 +85,7 @@ module _ {A : Type 0} (s t : rules.Sheet) where
 pub values_in : {K : Type 0} (f : K → Coords) (l : Lists K) (state : State) → (use_in f l state).values ≡ map f (vec_items l.values)
 values_in f l (Free s) = refl
 values_in f l (Gripped h) = refl
-values_in f l (Proposed h d) = refl
+values_in f l (Proposed o) = refl
 
 -- a call is made as its step was, where there was memory for it
 pub called : {K : Type 0} (f : K → Coords) (o p : runs.Outcome) (l m : Lists K) (given r : Result (State × Answer K) AllocError) (state : State) (answer : Answer K)

@@ -28,7 +28,7 @@ in_use f l sheet phase = record {
 abbrev pub use_in : {K : Type 0} → (K → Coords) → Lists K → State → runs.Use
 use_in f l (s.Free sheet) = in_use f l (numbers sheet) runs.free
 use_in f l (s.Gripped h) = in_use f l (gripped_sheet h.grip) (runs.gripped (shown (box_value h.workings)))
-use_in f l (s.Proposed h d) = in_use f l (gripped_sheet h.grip) (runs.proposing (shown (box_value h.workings)) d)
+use_in f l (s.Proposed o) = in_use f l (gripped_sheet o.held.grip) (runs.proposing (shown (box_value o.held.workings)) o.denominator)
 
 -- A state and an answer by what they mean, whatever the lists hold.
 pub record Means {K : Type 0} (f : K → Coords) (sheet : rules.Sheet) (phase : runs.Phase) (reply : runs.Reply) (r : State × Answer K) : Type 0 where

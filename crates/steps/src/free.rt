@@ -59,7 +59,8 @@ pub fn unbind_step<K: Kind>(
     (State::Free(sheet), done(r))
 }
 
-// A grip with its workings and the numbers of the spare relations; without memory for them there is no grip.
+// A grip with its workings and the numbers of the spare relations; without memory for them there is no grip, which must end before
+// the want of memory is told.
 fn gripped<K: Kind>(
     heap: Global,
     grip: Grip<Unproposed>,

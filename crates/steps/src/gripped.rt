@@ -5,7 +5,7 @@ ghost use Rattle.grips.specs.Shown.{gripped_sheet};
 ghost use Rattle.workings.specs.Shown.{shown};
 ghost use Rattle.steps.specs.Steps.{in_use, Means, Stepped, SteppedIn};
 
-use crate::held::Held;
+use crate::held::{Held, Offer};
 use crate::lists::Lists;
 use crate::state::State;
 use calls::{Answer, Given};
@@ -13,21 +13,28 @@ use grips::{Proposed, Refused};
 use kinds::Kind;
 use std::alloc::{AllocError, Global};
 
-// A grip with a proposal over a denominator, and the numerators of the proposal; without memory for them there is no grip.
+// A grip with a proposal over a denominator, and the numerators of the proposal; without memory for them there is no grip, which
+// must end before the want of memory is told.
 fn proposed<K: Kind>(
     heap: Global,
-    held: Held<Proposed>,
-    denominator: i64,
+    offer: Offer,
     numerators: &[K],
 ) -> Result<(State, Answer<K>), AllocError>
-    ensures { IfOk result (Means K.coords (gripped_sheet held.grip) (runs.proposing (shown held.workings.value) denominator) (Ok (runs.placing (record { over = denominator; nums = map K.coords numerators.now })))) }
+    ensures { IfOk result (Means K.coords (gripped_sheet offer.held.grip) (runs.proposing (shown offer.held.workings.value) offer.denominator) (Ok (runs.placing (record { over = offer.denominator; nums = map K.coords numerators.now })))) }
 {
     match Vec::from_slice(heap, numerators) {
-        Ok(numerators) => Ok((
-            State::Proposed(held, denominator),
-            Ok(Given::Placing(denominator, numerators)),
-        )),
+        Ok(numerators) => {
+            let denominator = offer.denominator;
+            Ok((
+                State::Proposed(offer),
+                Ok(Given::Placing(denominator, numerators)),
+            ))
+        }
         Err(e) => {
+            let Offer {
+                held,
+                denominator: _,
+            } = offer;
             let _ = held.release();
             Err(e)
         }
@@ -57,8 +64,10 @@ pub fn pull_step<K: Kind, P: Drop>(
             let n = grip.count();
             proposed(
                 heap,
-                Held { grip, workings },
-                denominator,
+                Offer {
+                    held: Held { grip, workings },
+                    denominator,
+                },
                 &lists.proposal.as_slice()[0..n],
             )
         }
@@ -73,13 +82,10 @@ pub fn pull_step<K: Kind, P: Drop>(
 }
 
 // A keep of the proposal.
-pub fn keep_step<K: Kind>(
-    lists: &mut Lists<K>,
-    held: Held<Proposed>,
-    denominator: i64,
-) -> (State, Answer<K>)
-    ensures { Stepped K.coords (runs.keeps K.size (in_use K.coords lists.old (gripped_sheet held.grip) (runs.proposing (shown held.workings.value) denominator)) denominator) lists.new result }
+pub fn keep_step<K: Kind>(lists: &mut Lists<K>, offer: Offer) -> (State, Answer<K>)
+    ensures { Stepped K.coords (runs.keeps K.size (in_use K.coords lists.old (gripped_sheet offer.held.grip) (runs.proposing (shown offer.held.workings.value) offer.denominator)) offer.denominator) lists.new result }
 {
+    let Offer { held, denominator } = offer;
     let Held { grip, workings } = held;
     match grip.keep(
         &mut lists.values,
@@ -90,13 +96,13 @@ pub fn keep_step<K: Kind>(
     ) {
         Ok(sheet) => (State::Free(sheet), Ok(Given::Nothing)),
         Err(Refused { back, refusal }) => (
-            State::Proposed(
-                Held {
+            State::Proposed(Offer {
+                held: Held {
                     grip: back,
                     workings,
                 },
                 denominator,
-            ),
+            }),
             Err(refusal),
         ),
     }

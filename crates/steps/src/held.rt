@@ -2,7 +2,7 @@ ghost use Rattle.std.specs.Prelude.{◌≡◌};
 ghost use Rattle.grips.specs.Shown.{gripped_sheet};
 ghost use Rattle.sheets.specs.Shown.{numbers};
 
-use grips::Grip;
+use grips::{Grip, Proposed};
 use sheets::Sheet;
 use workings::Workings;
 
@@ -10,6 +10,12 @@ use workings::Workings;
 pub struct Held<P> {
     pub grip: Grip<P>,
     pub workings: Box<Workings>,
+}
+
+// The same with a proposal, and the proposal's denominator.
+pub struct Offer {
+    pub held: Held<Proposed>,
+    pub denominator: i64,
 }
 
 impl<P: Drop> Held<P> {

@@ -9,6 +9,6 @@ mod state;
 
 pub use free::{bind_step, grip_step, unbind_step};
 pub use gripped::{keep_step, pull_step};
-pub use held::Held;
+pub use held::{Held, Offer};
 pub use lists::Lists;
 pub use state::State;

@@ -7,7 +7,7 @@ use kinds::Kind;
 use records::{Mark, Relation};
 use std::alloc::{AllocError, Global};
 
-// The lists that the calls on a sheet are lent.
+// The lists that the calls on a sheet are lent, side by side as the calls take them.
 #[derive(Drop)]
 pub struct Lists<K> {
     pub values: Vec<K>,
@@ -26,15 +26,11 @@ const WORKING: usize = 24;
 
 const SPARES: usize = 12;
 
-// n values of zero, put in one by one: the library's `vec!` copies by a clone that must not fail, and a kind promises none.
+// n values of zero.
 fn zeros_of<K: Kind>(heap: Global, n: usize) -> Result<Vec<K>, AllocError>
     ensures { IfOk result (λ v. map K.coords v.items ≡ zeros n K.size) }
 {
-    let mut values = Vec::with_capacity(heap, n)?;
-    for _s in 0..n {
-        values.push(K::zero())?;
-    }
-    Ok(values)
+    (0..n).map(|_| K::zero()).collect(heap)
 }
 
 impl<K: Kind> Lists<K> {

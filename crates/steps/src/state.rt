@@ -1,10 +1,10 @@
-use crate::held::Held;
-use grips::{Proposed, Unproposed};
+use crate::held::{Held, Offer};
+use grips::Unproposed;
 use sheets::Sheet;
 
-// What a sheet is in: no grip, a grip, or a grip with a proposal over a denominator.
+// What a sheet is in: no grip, a grip, or a grip with a proposal.
 pub enum State {
     Free(Sheet),
     Gripped(Held<Unproposed>),
-    Proposed(Held<Proposed>, i64),
+    Proposed(Offer),
 }

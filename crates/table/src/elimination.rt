@@ -30,6 +30,7 @@ pub(crate) fn eliminate(rows: &mut [Row]) -> Result<(), Refusal>
     let m = rows.len();
     let w = m + m;
     'steps: {
+        // a step goes by a number: its pivot is in row k and column k
         for k in 0..m {
             let pivot = rows[k];
             let p = pivot.cells[k];

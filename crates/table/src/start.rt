@@ -25,6 +25,7 @@ fn weighted_sum(shares: &[i64], xs: &[i64; 48], ys: &[i64; 48]) -> i64
     ensures { result ≡ sum (length shares.now) (λ s. at shares.now s *ℤ (at xs.now s *ℤ at ys.now s)) }
 {
     let mut sum = 0;
+    // by number: pairs within pairs took 1.7 times as long
     for (s, v) in shares.iter().enumerate() {
         sum += weighted(*v, xs[s], ys[s]);
     }
@@ -39,6 +40,7 @@ fn first_row(i: usize, shares: &[i64], rows: &[[i64; 48]]) -> Row
         result.cells ≡ slice_set (tab m (gram (length shares.now) (at shares.now) (coord rows.now) i) ++ drop m (replicate 24 (pos 0))) (m + i) (pos 1) }
 {
     let mut row = Row { cells: [0; 24] };
+    // by number: of a list that is written through pairs, a proof does not see what it becomes
     for (j, other) in rows.iter().enumerate() {
         row.cells[j] = weighted_sum(shares, &rows[i], other);
     }

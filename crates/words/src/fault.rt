@@ -20,7 +20,7 @@ impl From<AllocError> for Fault {
     }
 }
 
-// No memory to put a value into a list; the value is let go.
+// No memory to put a value into a list; the value is let go. `?` asks for one `From` to each error that it meets.
 impl<T: Drop> From<AllocFailed<T>> for Fault {
     ghost from_gives = { λ _ e. e ≡ Memory };
 

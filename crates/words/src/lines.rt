@@ -1,6 +1,6 @@
 // A card cut into lines.
 ghost use Rattle.std.specs.Prelude.{◌≡◌};
-ghost use Rattle.words.specs.Lines.{lines, uncut, CutOff, TextOf, Placed, Cuts};
+ghost use Rattle.words.specs.Lines.{uncut, CutOff, TextOf, Placed, Cuts};
 
 use super::fault::Fault;
 use super::word::place_of;

@@ -1,4 +1,4 @@
-ghost use Rattle.std.specs.Prelude.{◌≡◌, ◌≤◌, map, length, IfOk, Ok, nat_lt};
+ghost use Rattle.std.specs.Prelude.{◌≡◌, map, length, IfOk, Ok, nat_lt};
 ghost use Rattle.arrayvec.specs.ArrayVec.{array_vec_len};
 ghost use Rattle.records.specs.declared.refusal.Refusal.TheVariants.{Crowded};
 ghost use Rattle.records.specs.Outcomes.{guard, image};

@@ -1,4 +1,4 @@
-ghost use Rattle.std.specs.Prelude.{◌≡◌, ℕ, ◌+◌, ◌<◌, ◌≤◌, true, [], length, ℤ, pos, ◌≤ℤ◌, if◌then◌else◌, nat_lt, unsigned_abs};
+ghost use Rattle.std.specs.Prelude.{◌≡◌, ℕ, ◌≤◌, true, [], length, ℤ, pos, ◌≤ℤ◌, if◌then◌else◌, nat_lt, unsigned_abs};
 ghost use Rattle.linear.specs.Elimination.{entry, right_half, table_limit};
 ghost use Rattle.rules.specs.Gripping.{is_loose, role};
 ghost use Rattle.whole.specs.Lists.{at, tab};

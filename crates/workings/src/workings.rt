@@ -10,7 +10,8 @@ use table::Table;
 // What a grip hands to each pull: the finished table of the m relations that count, and for each of `count` parameters its
 // role and its v(s), which is 0 where it is not loose. Only a grip makes workings, so what the ghost fields say holds of all
 // there are.
-// The two lists stand in the first places of arrays: the calls on a sheet use no heap.
+// The two lists stand in the first places of arrays: workings are plain data that may be copied, as no list with a length of its
+// own may.
 #[derive(Clone, Copy)]
 pub struct Workings {
     pub(crate) table: Table,

@@ -1,4 +1,4 @@
-ghost use Rattle.std.specs.Prelude.{◌≡◌, ◌*◌, ◌≤◌, false, map, length, unsigned_abs};
+ghost use Rattle.std.specs.Prelude.{◌≡◌, ◌*◌, false, map, unsigned_abs};
 ghost use Rattle.rules.specs.Sheets.{bad_denominator, bad_coefs, bad_constant, bad_relation, unfit_values, unfit_relations, unfit};
 ghost use Rattle.sheets.specs.Shown.{numbers};
 

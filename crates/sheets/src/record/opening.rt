@@ -1,6 +1,6 @@
-ghost use Rattle.std.specs.Prelude.{◌≡◌, ◌≤◌, map, length};
+ghost use Rattle.std.specs.Prelude.{◌≡◌, map, length};
 ghost use Rattle.records.specs.Outcomes.{image};
-ghost use Rattle.rules.specs.Values.{zeros, written};
+ghost use Rattle.rules.specs.Values.{zeros};
 ghost use Rattle.rules.specs.Calls.{opening};
 ghost use Rattle.sheets.specs.Shown.{numbers};
 
@@ -13,9 +13,7 @@ use records::Refusal;
 pub fn clear<K: Kind>(values: &mut [K])
     ensures { map K.coords values.new ≡ zeros (length values.old) K.size }
 {
-    for v in values.iter_mut() {
-        *v = K::zero();
-    }
+    values.fill_with(|| K::zero());
 }
 
 impl Sheet {

@@ -1,4 +1,4 @@
-use Rattle.std.proofs.Common.{map, ℤ, Ok, Err, box_value, refl, ap, ◌∙◌, subst, w64, to_z, of_z}
+use Rattle.std.proofs.Common.{map, ℤ, Ok, Err, box_value, refl, ap, ◌∙◌, subst, w64, SFits, to_z, of_z, rules}
 use Rattle.std.specs.Vec.{with_items}
 use Rattle.std.proofs.lemmas.List.{with_items_is}
 use Rattle.std.proofs.lemmas.Int.{to_z-of_z}
@@ -20,10 +20,11 @@ returns-in-Ok g c =
     let lists = c.args.lists.now in
     let rv = with_items_is lists.values c.keep.new.values (c.keep.auto.values ∙ c.deref_mut.ensures.len) in
     let after : Lists g.row.K.Denot = record { values = with_items lists.values c.keep.new.values; relations = lists.relations; constants = lists.constants; proposal = lists.proposal; working = lists.working; spare = lists.spare } in
-    let s = gripped_sheet c.args.held.grip in
-    let d = c.args.denominator in
-    let phase = runs.proposing (shown (box_value c.args.held.workings)) d in
-    let read = to_z-of_z w64 d c.ranges.denominator in
+    let s = gripped_sheet c.args.offer.held.grip in
+    let d = c.args.offer.denominator in
+    let phase = runs.proposing (shown (box_value c.args.offer.held.workings)) d in
+    let fits : SFits w64 d = search rules in
+    let read = to_z-of_z w64 d fits in
     let e = c.in-Ok.ensures in
     subst (λ (x : ℤ). Stepped f (runs.keeps size (in_use f lists s phase) x) after (Free c.in-Ok.sheet, Ok Nothing)) read
     (kept_step f size lists after s phase (to_z w64 (of_z w64 d)) c.deref_mut.result.now c.deref.result.now c.deref-2.result.now c.deref-3.result.now
@@ -37,15 +38,16 @@ returns-in-Err g c =
     let lists = c.args.lists.now in
     let rv = with_items_is lists.values c.keep.new.values (c.keep.auto.values ∙ c.deref_mut.ensures.len) in
     let after : Lists g.row.K.Denot = record { values = with_items lists.values c.keep.new.values; relations = lists.relations; constants = lists.constants; proposal = lists.proposal; working = lists.working; spare = lists.spare } in
-    let s = gripped_sheet c.args.held.grip in
-    let d = c.args.denominator in
-    let phase = runs.proposing (shown (box_value c.args.held.workings)) d in
-    let read = to_z-of_z w64 d c.ranges.denominator in
+    let s = gripped_sheet c.args.offer.held.grip in
+    let d = c.args.offer.denominator in
+    let phase = runs.proposing (shown (box_value c.args.offer.held.workings)) d in
+    let fits : SFits w64 d = search rules in
+    let read = to_z-of_z w64 d fits in
     let e = c.in-Err.ensures in
     let t = gripped_sheet c.in-Err.field-0.back in
-    let w = c.args.held.workings in
-    subst (λ (x : ℤ). Stepped f (runs.keeps size (in_use f lists s phase) x) after (Proposed (record { grip = c.in-Err.field-0.back; workings = w }) (to_z w64 (of_z w64 d)), Err c.in-Err.field-0.refusal)) read
+    let w = c.args.offer.held.workings in
+    subst (λ (x : ℤ). Stepped f (runs.keeps size (in_use f lists s phase) x) after (Proposed (record { held = record { grip = c.in-Err.field-0.back; workings = w }; denominator = to_z w64 (of_z w64 d) }), Err c.in-Err.field-0.refusal)) read
     (unkept_step f size lists after s phase (to_z w64 (of_z w64 d)) c.deref_mut.result.now c.deref.result.now c.deref-2.result.now c.deref-3.result.now
     c.deref_mut.ensures.value c.deref.ensures.value c.deref-2.ensures.value c.deref-3.ensures.value refl refl refl refl refl
-    (ap (map f) rv ∙ e.values) t c.in-Err.field-0.refusal (Proposed (record { grip = c.in-Err.field-0.back; workings = w }) (to_z w64 (of_z w64 d)), Err c.in-Err.field-0.refusal) e.result
+    (ap (map f) rv ∙ e.values) t c.in-Err.field-0.refusal (Proposed (record { held = record { grip = c.in-Err.field-0.back; workings = w }; denominator = to_z w64 (of_z w64 d) }), Err c.in-Err.field-0.refusal) e.result
     (record { state = λ l. ap (λ (x : ℤ). in_use f l t (runs.proposing (shown (box_value w)) x)) read; answer = refl }))

@@ -1,5 +1,4 @@
-use Rattle.std.proofs.Common.{ℤ, sym, ap, ◌∙◌, w64, SFits, to_z, of_z, rules}
-use Rattle.std.proofs.lemmas.Int.{to_z-of_z}
+use Rattle.std.proofs.Common.{sym, ap}
 use Rattle.calls.specs.Shown.{call_of}
 use Rattle.rules.specs.Runs as runs
 use Rattle.steps.specs.declared.state.State.{State}
@@ -21,9 +20,5 @@ returns g c =
     elim c.match-state.branch [
       | in-Free w ↦ called f (step (Free w.in-Free.sheet)) after lists w.free_step-stepped.new.lists c.match-state.stepped w.free_step-stepped.result state answer was w.stepped-is w.lists-is (sym (ap step w.in-Free.is)) w.free_step-stepped.ensures
       | in-Gripped w ↦ called f (step (Gripped w.in-Gripped.held)) after lists w.gripped_step-stepped.new.lists c.match-state.stepped w.gripped_step-stepped.result state answer was w.stepped-is w.lists-is (sym (ap step w.in-Gripped.is)) w.gripped_step-stepped.ensures
-      | in-Proposed w ↦
-          let d = w.in-Proposed.denominator in
-          let fits : SFits w64 d = search rules in
-          let proposed : ℤ → runs.Outcome = λ x. step (Proposed w.in-Proposed.held x) in
-          called f (proposed (to_z w64 (of_z w64 d))) after lists w.proposed_step-stepped.new.lists c.match-state.stepped w.proposed_step-stepped.result state answer was w.stepped-is w.lists-is (ap proposed (to_z-of_z w64 d fits) ∙ sym (ap step w.in-Proposed.is)) w.proposed_step-stepped.ensures
+      | in-Proposed w ↦ called f (step (Proposed w.in-Proposed.offer)) after lists w.proposed_step-stepped.new.lists c.match-state.stepped w.proposed_step-stepped.result state answer was w.stepped-is w.lists-is (sym (ap step w.in-Proposed.is)) w.proposed_step-stepped.ensures
     ]
