@@ -1,4 +1,4 @@
-// A sheet that is opened, bound and gripped once, and then pulled to one list of wishes after the other.
+// A sheet that is opened, bound and gripped once, and then pulled to one list of wishes after the other. C lends each list by itself.
 use kinds::{Kind, Length, Point, read, write};
 use pulls::propose;
 use records::{Mark, Refusal, Relation, Role};

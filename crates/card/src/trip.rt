@@ -1,4 +1,5 @@
-// From bytes to a line and back, and from a line to bytes and back.
+// From bytes to a line and back, and from a line to bytes and back. A heading has no count and no kind of value, so that its two
+// ways are functions of their own.
 ghost use Rattle.lines.specs.Lines.{said};
 ghost use Rattle.card.specs.Writes.{OneReading, OneSpelling, Copied, Reread};
 

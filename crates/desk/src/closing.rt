@@ -1,4 +1,4 @@
-// Closing a desk.
+// Closing a desk. Each state lets its sheet go in its own way, so a match takes it apart.
 ghost use Rattle.std.specs.Prelude.{◌≡◌, map, take};
 ghost use Rattle.desk.specs.Desks.{use_of};
 

@@ -28,6 +28,7 @@ pub(crate) fn mark_all(relations: &mut [Relation], workings: &Workings)
         relations.new ≡ marked w.count w.roles (bare w.count relations.old) w.table relations.old }
 {
     let roles = workings.roles();
+    // the table has a row for each relation that counts, and none for the others
     let mut row = 0;
     for relation in relations.iter_mut() {
         let counts = relation_counts(&relation.coefficients, roles);
@@ -50,6 +51,7 @@ pub(crate) fn write_spares(relations: &[Relation], spare: &mut [usize]) -> usize
     ensures count { result ≡ length (spare_marks relations.now (length relations.now)) }
     ensures list { spare.new ≡ written result (spare_marks relations.now (length relations.now)) spare.old }
 {
+    // how many spare relations were found so far
     let mut k = 0;
     for (i, relation) in relations.iter().enumerate() {
         if is_spare(relation.mark) {

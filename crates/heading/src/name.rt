@@ -38,6 +38,7 @@ pub fn good_names(names: &[&[u8]]) -> bool
     if names.is_empty() || names.len() > NAMES {
         return false;
     }
+    // a name is compared with those before it
     for (i, name) in names.iter().enumerate() {
         if !is_name(name) || holds(&names[..i], name) {
             return false;

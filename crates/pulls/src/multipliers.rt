@@ -68,7 +68,7 @@ impl Multiple {
         ensures answer { result ≡ guard (any (length numbers.now) (λ i. strays K.size self.l (slice_index numbers.now i) (slice_index_or (map K.coords sums.old) i []))) TooFine (Ok tt) }
         ensures list { OnOk result (map K.coords sums.new ≡ all_multiplied K.size self.l numbers.now (map K.coords sums.old)) }
     {
-        // by number: of a list that is written through pairs, a proof does not see what it becomes
+        // by number: of a list that is written through a zip, a proof does not see what it becomes
         for (i, sum) in sums.iter_mut().enumerate() {
             *sum = self.multiplier(numbers[i], *sum)?;
         }

@@ -25,6 +25,7 @@ impl<K: Kind> Task<'_, K> {
         ensures answer { let t = self.now in let w = shown t.workings.now in result ≡ guard (some_above most_residual K.size (length t.rows.now) (residuals K.size w.count w.roles (chosen w.count t.relations.now (map K.coords t.constants.now) t.rows.now) t.d (map K.coords t.values.now) (map K.coords t.wishes.now))) GapTooLarge (Ok tt) }
         ensures list { let t = self.now in let w = shown t.workings.now in OnOk result (map K.coords found.new ≡ residuals K.size w.count w.roles (chosen w.count t.relations.now (map K.coords t.constants.now) t.rows.now) t.d (map K.coords t.values.now) (map K.coords t.wishes.now)) }
     {
+        // a residual asks for its relation's number
         for (i, place) in found.iter_mut().enumerate() {
             let c = self.residual(i);
             if value_above(c, MOST_RESIDUAL) {

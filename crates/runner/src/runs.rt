@@ -35,6 +35,7 @@ fn read_script<V: Written + Drop>(
                 calls.push(call_of(heap, line)?)?;
                 made.push(true)?;
             }
+            // a line that is not of the form is answered, and only want of memory ends the reading
             Err(Fault::Form) => made.push(false)?,
             Err(Fault::Memory) => return Err(Fault::Memory),
         }
@@ -91,6 +92,7 @@ pub fn run_card(heap: Global, card: &[u8]) -> Result<Vec<u8>, Fault> {
             &mut lines,
             &mut out,
         )?,
+        // a bad first line is answered, and only want of memory ends the card
         Err(Fault::Form) => put_refusal(&mut out, Refusal::Form)?,
         Err(Fault::Memory) => return Err(Fault::Memory),
     }

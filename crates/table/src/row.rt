@@ -38,7 +38,7 @@ impl Factors {
         requires rows { Within table_limit (length cells.old) cells.old × Within table_limit (length cells.old) pivot.now }
         ensures { cells.new ≡ mixed (length cells.old) self.p self.q cells.old pivot.now }
     {
-        // by number: of a list that is written through pairs, a proof does not see what it becomes
+        // by number: of a list that is written through a zip, a proof does not see what it becomes
         for (j, x) in cells.iter_mut().enumerate() {
             *x = self.mix(*x, pivot[j]);
         }

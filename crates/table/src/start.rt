@@ -40,7 +40,7 @@ fn first_row(i: usize, shares: &[i64], rows: &[[i64; 48]]) -> Row
         result.cells ≡ slice_set (tab m (gram (length shares.now) (at shares.now) (coord rows.now) i) ++ drop m (replicate 24 (pos 0))) (m + i) (pos 1) }
 {
     let mut row = Row { cells: [0; 24] };
-    // by number: of a list that is written through pairs, a proof does not see what it becomes
+    // by number: of a list that is written through a zip, a proof does not see what it becomes
     for (j, other) in rows.iter().enumerate() {
         row.cells[j] = weighted_sum(shares, &rows[i], other);
     }
@@ -55,6 +55,7 @@ pub(crate) fn first_rows(shares: &[i64], rows: &[[i64; 48]]) -> [Row; 12]
 {
     let mut all = [Row { cells: [0; 24] }; 12];
     let m = rows.len();
+    // a row's 1 stands by the row's number
     for (i, row) in all[..m].iter_mut().enumerate() {
         *row = first_row(i, shares, rows);
     }

@@ -19,7 +19,7 @@ pub(crate) fn shares_of(roles: &[Role]) -> [i64; 48]
     ensures { take (length roles.now) result ≡ shares (length roles.now) roles.now }
 {
     let mut all = [0; 48];
-    // by number: of a list that is written through pairs, a proof does not see what it becomes
+    // by number: of a list that is written through a zip, a proof does not see what it becomes
     for (s, role) in roles.iter().enumerate() {
         all[s] = share_of(*role);
     }
