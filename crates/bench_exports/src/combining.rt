@@ -29,10 +29,12 @@ pub extern "C" fn valetwren_plus_scaled(
     vs: &[Pair],
     out: &mut [Pair],
 ) -> bool {
+    let n = us.len().min(ks.len()).min(vs.len()).min(out.len());
     let mut fit = true;
-    for (((u, k), v), w) in us.iter().zip(ks).zip(vs).zip(out.iter_mut()) {
-        match Point::from(*u).plus_scaled(*k, Point::from(*v)) {
-            Ok(sum) => *w = Pair::from(sum),
+    // by number: pairs within pairs take as long as the step that is measured
+    for i in 0..n {
+        match Point::from(us[i]).plus_scaled(ks[i], Point::from(vs[i])) {
+            Ok(sum) => out[i] = Pair::from(sum),
             Err(_) => fit = false,
         }
     }
