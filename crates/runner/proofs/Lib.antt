@@ -1,1 +1,2 @@
-mod Falls
+mod Scripts
+mod Answering

@@ -1,8 +1,9 @@
 // A card from its bytes to the bytes of its answers.
 #![tactic(auto)]
 
-mod answers;
 mod asking;
+mod playing;
 mod runs;
+mod script;
 
 pub use runs::run_card;
