@@ -138,4 +138,21 @@ mod tests {
             b"ok\nok\nok\nok 1 0 8000 16000 4000 4000\nok\nok\nok 3 -167 24668 49503 12000 12000\nok\nok 0\nno 13\nok\nend\n",
         )
     }
+
+    #[test]
+    fn longest_cards(rt: HostRuntime) -> Result<(), Fail> {
+        let heap = rt.alloc();
+        let mut card = b"length a\n".to_vec(heap)?;
+        let mut answers = Vec::new(heap);
+        for _ in 0..13_105 {
+            card.extend_from_slice(b"keep\n")?;
+            answers.extend_from_slice(b"no 19\n")?;
+        }
+        card.extend_from_slice(b"\n\n")?;
+        answers.extend_from_slice(b"no 16\nno 16\nend\n")?;
+        assert_eq!(rt; card.len(), 65_536);
+        prints(&rt, card.as_slice(), answers.as_slice())?;
+        card.push(b'\n')?;
+        prints(&rt, card.as_slice(), b"no 16\nend\n")
+    }
 }
