@@ -4,4 +4,3 @@ pub mod Counting
 pub mod Fit
 pub mod Bounds
 pub mod Bonds
-pub mod Grips

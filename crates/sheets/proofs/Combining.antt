@@ -47,6 +47,3 @@ module _ (us : List ℤ) (k : ℤ) (vs ws : List ℤ) (A B C : ℕ) (room : A + 
 
   pub combined-size : Within (A + B * C) ws
   combined-size c = subst (λ (z : ℤ). nat_abs z ≤ A + B * C) (sym (combined-at c)) (let a = product-≤ k (at vs c) B C hk (hv c) in let b = hu c in omega (arith, nat_abs-+ (at us c) (k *ℤ at vs c)))
-
-  pub combined-length : length ws ≡ length us
-  combined-length = ap length whole ∙ length-plus_scaled us k vs

@@ -1,20 +1,16 @@
 -- What it means that a sheet and its lists fit.
-use Rattle.std.proofs.Common.{◌≡◌, ℕ, ◌<◌, ◌≤◌, false, ◌||◌, ltb, List, map, length, ℤ, nat_abs, arith}
+use Rattle.std.proofs.Common.{◌≡◌, ℕ, ◌≤◌, false, ◌||◌, ltb, List, map, length, ℤ, arith}
 use lib.Seq.{paste}
 use Rattle.std.proofs.lemmas.List.{length-map, map-append, take-map, drop-map}
 use Rattle.std.proofs.lemmas.Bool.{ltb-false, or_parts}
 use Rattle.records.specs.declared.relation.Relation.{Relation}
-use Rattle.whole.specs.Lists.{at, coord}
-use Rattle.whole.proofs.Tests.{any_false, above_false}
 use Rattle.rules.specs.Values.{Coords}
 pub use Rattle.rules.proofs.Fit.{FitValues, fit_values}
-use Rattle.rules.specs.Sheets.{Sheet, relation_at, bad_coefs, unfit_values, unfit_relations, unfit}
+use Rattle.rules.specs.Sheets.{Sheet, unfit_values, unfit_relations, unfit}
 
 pub record FitRelations (size : ℕ) (s : Sheet) (rs : List Relation) (qs : List Coords) : Type 0 where
   pub relations_long : 24 ≤ length rs
   pub constants_long : 24 ≤ length qs
-  pub coefficients_small : (i : ℕ) → i < s.bound → (p : ℕ) → p < s.count → nat_abs (at (relation_at rs i).coefficients p) ≤ 1000
-  pub constants-small : (i : ℕ) → i < s.bound → (c : ℕ) → c < size → nat_abs (coord qs i c) ≤ 47560000
 
 pub fit_relations : (size : ℕ) (s : Sheet) (rs : List Relation) (qs : List Coords) → unfit_relations size s rs qs ≡ false → FitRelations size s rs qs
 fit_relations size s rs qs e =
@@ -23,8 +19,6 @@ fit_relations size s rs qs e =
     record {
       relations_long = ltb-false _ _ b.0;
       constants_long = ltb-false _ _ b.1;
-      coefficients_small = λ i l p k. above_false _ (at (relation_at rs i).coefficients p) (any_false s.count _ (or_parts (bad_coefs s.count (relation_at rs i).coefficients) _ (any_false s.bound _ a.1 i l)).0 p k);
-      constants-small = λ i l c k. above_false _ (coord qs i c) (any_false size _ (or_parts (bad_coefs s.count (relation_at rs i).coefficients) _ (any_false s.bound _ a.1 i l)).1 c k);
     }
 
 pub fit : (size : ℕ) (s : Sheet) (vs : List Coords) (rs : List Relation) (qs : List Coords) → unfit size s vs rs qs ≡ false → FitValues size s.count s.d vs × FitRelations size s rs qs

@@ -1,5 +1,5 @@
 -- The greatest common divisor of two numbers, and of a list's.
-use Rattle.std.proofs.Common.{◌≡◌, ℕ, zero, suc, ◌/◌, ◌%◌, ◌<◌, ◌≤◌, ◌⊎◌, List, [], ◌∷◌, ℤ, pos, negsuc, ◌*ℤ◌, neg_ℤ, nat_abs, fold, refl, ap, ◌∙◌, ⊎_elim, not-suc-le-zero, mod-lt, arith}
+use Rattle.std.proofs.Common.{◌≡◌, ℕ, zero, suc, ◌/◌, ◌%◌, ◌<◌, ◌⊎◌, List, [], ◌∷◌, ℤ, pos, negsuc, ◌*ℤ◌, neg_ℤ, nat_abs, fold, refl, ap, ◌∙◌, ⊎_elim, not-suc-le-zero, mod-lt, arith}
 use Prim.Native.Nat.{◌∣◌}
 use native.Mathlib.Nat.{dvd_refl, dvd_trans, dvd-mod_iff, dvd-zero, le_of_dvd, pos_of_dvd_of_pos, mul-div_cancel'}
 use lib.Signed.{quot_z}
@@ -87,10 +87,6 @@ gcd_all-greatest xs k d = fold-greatest xs 0 k (dvd-zero k) d
 -- a list with a number other than 0 has a divisor above 0
 pub gcd_all-above : (xs : List ℤ) (i : ℕ) → 0 < nat_abs (at xs i) → 0 < gcd_all xs
 gcd_all-above xs i h = pos_of_dvd_of_pos (gcd_all-divides xs i) h
-
--- the divisor is at most each number other than 0
-pub gcd_all-≤ : (xs : List ℤ) (i : ℕ) → 0 < nat_abs (at xs i) → gcd_all xs ≤ nat_abs (at xs i)
-gcd_all-≤ xs i h = le_of_dvd h (gcd_all-divides xs i)
 
 -- ---- division by a divisor
 pub exact : (g : ℕ) (a : ℤ) → g ∣ nat_abs a → pos g *ℤ quot_z a (pos g) ≡ a

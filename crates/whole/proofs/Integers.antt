@@ -73,11 +73,6 @@ pub square-≥0 : (a : ℤ) → pos 0 ≤ℤ (a *ℤ a)
 square-≥0 (pos n) = omega (arith, ints)
 square-≥0 (negsuc n) = omega (arith, ints)
 
-pub square->0 : (a : ℤ) → a ≢ pos 0 → pos 0 <ℤ (a *ℤ a)
-square->0 (pos zero) d = absurd (d refl)
-square->0 (pos (suc n)) d = omega (arith, ints)
-square->0 (negsuc n) d = omega (arith, ints)
-
 pub *-≥0 : (a b : ℤ) → pos 0 ≤ℤ a → pos 0 ≤ℤ b → pos 0 ≤ℤ (a *ℤ b)
 *-≥0 (pos m) (pos n) h k = omega (arith, ints)
 *-≥0 (pos m) (negsuc n) h k = absurd (omega (arith, ints))

@@ -1,6 +1,5 @@
 -- Sizes of products and sums.
-use Rattle.std.proofs.Common.{◌≡◌, ℕ, zero, suc, ◌+◌, ◌*◌, ◌/◌, ◌^◌, ◌<◌, ◌≤◌, ℤ, pos, negsuc, ◌+ℤ◌, ◌-ℤ◌, ◌*ℤ◌, neg_ℤ, nat_abs, sym, refl, subst, mul-le-mul, div-le_self, arith, w64, SFits}
-use lib.Signed.{quot_z}
+use Rattle.std.proofs.Common.{◌≡◌, ℕ, zero, suc, ◌+◌, ◌*◌, ◌^◌, ◌<◌, ◌≤◌, ℤ, pos, negsuc, ◌+ℤ◌, ◌-ℤ◌, ◌*ℤ◌, neg_ℤ, nat_abs, sym, refl, subst, mul-le-mul, arith, w64, SFits}
 use borrow.Author.Differences.{ints}
 use Rattle.whole.specs.Sums.{sum}
 
@@ -20,10 +19,6 @@ nat_abs-+ a b = omega (arith, ints)
 
 pub nat_abs-- : (a b : ℤ) → nat_abs (a -ℤ b) ≤ nat_abs a + nat_abs b
 nat_abs-- a b = omega (arith, ints)
-
-pub nat_abs_quot : (a : ℤ) (g : ℕ) → nat_abs (quot_z a (pos g)) ≤ nat_abs a
-nat_abs_quot (pos a) g = div-le_self a g
-nat_abs_quot (negsuc a) g = subst (λ n. n ≤ suc a) (sym (nat_abs_neg (pos (suc a / g)))) (div-le_self (suc a) g)
 
 pub product-≤ : (a b : ℤ) (A B : ℕ) → nat_abs a ≤ A → nat_abs b ≤ B → nat_abs (a *ℤ b) ≤ A * B
 product-≤ a b A B h k = subst (λ (z : ℕ). z ≤ A * B) (sym (nat_abs-* a b)) (mul-le-mul h k)

@@ -2,8 +2,7 @@
 use Rattle.std.proofs.Common.{◌≡◌, ℕ, zero, suc, ◌<◌, ◌≤◌, Bool, true, false, ◌||◌, ◌≢◌, ℤ, pos, negsuc, ◌-ℤ◌, nat_abs, sym, refl, ap, ◌∙◌, ⊎_elim, true≢false, not-suc-le-zero, arith}
 use mathlib.Core.Bool.{false≢true}
 use native.Mathlib.Decide.{ℕ_discrete}
-use borrow.Author.Differences.{ints}
-use Rattle.std.proofs.lemmas.Bool.{or_parts, or_cases, not-true, not-false, ltb-true, ltb-false, le-ltb}
+use Rattle.std.proofs.lemmas.Bool.{or_parts, or_cases, not-true, not-false, ltb-false, le-ltb}
 use Rattle.whole.specs.Tests.{any, tally, above, is_zero, nonzero, differ}
 use Rattle.whole.proofs.Integers.{cancel}
 
@@ -62,9 +61,6 @@ tally-≤ (suc n) p = by (p n) (tally-≤ n p)
 pub above_false : (limit : ℕ) (x : ℤ) → above limit x ≡ false → nat_abs x ≤ limit
 above_false limit x e = ltb-false limit (nat_abs x) e
 
-pub above_true : (limit : ℕ) (x : ℤ) → above limit x ≡ true → limit < nat_abs x
-above_true limit x e = ltb-true limit (nat_abs x) e
-
 pub within-above : (limit : ℕ) (x : ℤ) → nat_abs x ≤ limit → above limit x ≡ false
 within-above limit x h = le-ltb limit (nat_abs x) h
 
@@ -90,9 +86,3 @@ is_nonzero (negsuc n) d = refl
 
 pub differ_false : (a b : ℤ) → differ a b ≡ false → a ≡ b
 differ_false a b e = cancel a b (nonzero_false (a -ℤ b) e)
-
-pub differ_true : (a b : ℤ) → differ a b ≡ true → a ≢ b
-differ_true a b e q = nonzero_true (a -ℤ b) e none
-  where
-    none : a -ℤ b ≡ pos 0
-    none = omega (arith, ints)

@@ -1,4 +1,4 @@
-use Rattle.std.proofs.Common.{decimal, vec_items, refl, rules, arith}
+use Rattle.std.proofs.Common.{decimal, vec_items, rules, arith}
 use Rattle.answers.proofs.Longer.{one_more}
 use Rattle.answers.proofs.rows.put_counts.Goals as goal
 
