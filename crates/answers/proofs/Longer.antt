@@ -1,9 +1,9 @@
 -- Rows of texts, one text longer.
 use Rattle.std.proofs.Common.{◌≡◌, ℕ, zero, suc, ◌+◌, ◌<◌, List, [], ◌∷◌, ◌++◌, length, get_or, take, map, length-take, ℤ, pos, Ok, Err, Result, sym, refl, ap, ◌∙◌, append_assoc, append-nil, arith}
 use Rattle.std.specs.Fmt.{signed_decimal}
-use Rattle.std.proofs.lemmas.List.{take_more, map-append, length-map}
+use Rattle.std.proofs.lemmas.List.{take_more, take-map, get_or-map, map-append, length-map}
 use Rattle.words.specs.Words.{joined_by, spaced}
-use Rattle.words.proofs.Cuts.{spaced-append}
+use Rattle.words.proofs.Cuts.{spaced_more}
 use Rattle.words.specs.declared.fault.Fault.{Fault}
 use Rattle.words.specs.Faults.{Done}
 use Rattle.rules.specs.Values.{Coords}
@@ -17,10 +17,9 @@ module _ {A : Type 0} (f : A → List ℕ) where
   pub one_more : (xs : List A) (i : ℕ) (x : A) (t₀ t₁ t₂ t₃ : List ℕ) (d : ℕ) → i < length xs → x ≡ get_or xs i x
       → t₁ ≡ t₀ ++ spaced (map f (take i xs)) → t₂ ≡ t₁ ++ d ∷ [] → d ≡ 32 → t₃ ≡ t₂ ++ f x → t₃ ≡ t₀ ++ spaced (map f (take (i + 1) xs))
   one_more xs i x t₀ t₁ t₂ t₃ d l e a b is h =
-      let front = map f (take i xs) in
-      let last : map f (take (i + 1) xs) ≡ front ++ f x ∷ [] = ap (map f) (take_more xs i x l ∙ ap (λ y. take i xs ++ y ∷ []) (sym e)) ∙ map-append f (take i xs) (x ∷ []) in
-      let row : spaced (map f (take (i + 1) xs)) ≡ spaced front ++ 32 ∷ f x = ap spaced last ∙ spaced-append front (f x ∷ []) ∙ ap (λ y. spaced front ++ 32 ∷ y) (append-nil (f x)) in
-      h ∙ ap (λ y. y ++ f x) (b ∙ (λ j. a j ++ is j ∷ [])) ∙ append_assoc (t₀ ++ spaced front) (32 ∷ []) (f x) ∙ append_assoc t₀ (spaced front) (32 ∷ f x) ∙ ap (λ y. t₀ ++ y) (sym row)
+      let row = λ (ws : List (List ℕ)). t₀ ++ spaced ws in
+      let inside : i < length (map f xs) = omega (arith, length-map xs f) in
+      spaced_more (map f xs) i (f x) t₀ t₁ t₂ t₃ d inside (get_or-map f xs i x [] l ∙ ap f (sym e)) (a ∙ ap row (sym (take-map f i xs))) b is h ∙ ap row (take-map f (i + 1) xs)
 
 joined_more : (s : ℕ) (ws : List (List ℕ)) (w : List ℕ) → 0 < length ws → joined_by s (ws ++ w ∷ []) ≡ joined_by s ws ++ s ∷ w
 joined_more s [] w l = absurd (omega arith)

@@ -1,7 +1,7 @@
 -- Points: two numbers joined by a comma.
-use Rattle.std.specs.Prelude.{◌≡◌, ℕ, zero, suc, ◌+◌, ◌-◌, ◌<◌, Bool, true, List, [], ◌∷◌, ◌++◌, length, take, drop, ℤ, Some, None, Ok, Err, Option, Result, ◌≢◌, slice_index, refl}
-use Rattle.std.proofs.Common.{sym, ap, subst, ◌∙◌, ⊎_elim, append_assoc, arith, take-append-drop, length-append}
-use Rattle.std.proofs.lemmas.List.{drop_more, take_all, get_or-take, get_or_at, length-drop, length-take, append_cancel_left}
+use Rattle.std.specs.Prelude.{◌≡◌, ℕ, zero, suc, Bool, true, List, [], ◌∷◌, ◌++◌, ℤ, Some, None, Ok, Err, Option, Result, ◌≢◌, refl}
+use Rattle.std.proofs.Common.{sym, ap, subst, ◌∙◌, ⊎_elim, append_assoc, arith}
+use Rattle.std.proofs.lemmas.List.{append_cancel_left}
 use Rattle.std.specs.Borrow.{Bor}
 use Rattle.kinds.specs.declared.length.Length.{Length}
 use Rattle.kinds.specs.declared.point.Point.{Point}
@@ -13,9 +13,7 @@ use Rattle.words.specs.Numbers.{Number, Exactly}
 use Rattle.words.specs.Sorts.{number, sort, sort_of, text_of}
 use Rattle.words.specs.Words.{pieces}
 use Rattle.words.proofs.Appends.{refuses_map}
-use Rattle.words.proofs.Cuts.{first_out, first_at, nowhere}
-use Rattle.std.specs.List.{position}
-use Rattle.std.proofs.Common.{eqb}
+use Rattle.words.proofs.Cuts.{first_out}
 use Rattle.forms.specs.Forms.{Forms, Visible, Says, PutWord}
 use Rattle.forms.specs.Laws.{number_bytes, number_laws}
 use Rattle.forms.specs.Leads.{number_sort}
@@ -43,7 +41,7 @@ cut_once a b c d la lc e =
     let backs = append_cancel_left c (44 ∷ b) (44 ∷ d) (ap (λ l. l ++ 44 ∷ b) (sym fronts) ∙ e) in
     (fronts, cc)
 
-parts : (w a b : List ℕ) (p : Point) → w ≡ a ++ 44 ∷ b → Lacks 44 a → (f : PointForm w p) → (f.first ≡ a) × (f.second ≡ b)
+pub parts : (w a b : List ℕ) (p : Point) → w ≡ a ++ 44 ∷ b → Lacks 44 a → (f : PointForm w p) → (f.first ≡ a) × (f.second ≡ b)
 parts w a b p e l f = cut_once f.first f.second a b (number_lacks _ _ f.left) l (sym f.comma ∙ e)
 
 visible_append : (a b : List ℕ) → Visible a → Visible b → Visible (a ++ b)
@@ -74,37 +72,6 @@ point_visible w p f =
 
 pub point_laws : Forms PointForm
 point_laws = record { one_value = point_once; one_word = point_word; visible = point_visible }
-
--- a word with no comma
-pub no_comma : (w : List ℕ) → position (λ b. eqb b 44) w ≡ None → (p : Point) → PointForm w p → ⊥
-no_comma w none p f =
-    let long = ap length f.comma ∙ length-append f.first (44 ∷ f.second) in
-    nowhere 44 w none (length f.first) (omega arith) (ap (λ v. slice_index v (length f.first)) f.comma ∙ get_or_at f.first 44 f.second 0 (length f.first) refl)
-
--- the parts of a word before its first comma and behind it
-abbrev pub front : List ℕ → ℕ → List ℕ
-front w n = take n w
-
-abbrev pub behind : List ℕ → ℕ → List ℕ
-behind w n = take (length w - (n + 1)) (drop (n + 1) w)
-
-module _ (w : List ℕ) (n : ℕ) (first : position (λ b. eqb b 44) w ≡ Some n) where
-  pub around : w ≡ front w n ++ 44 ∷ behind w n
-  around =
-      let h = first_at 44 w n first in
-      sym (take-append-drop n w) ∙ ap (λ v. take n w ++ v) (drop_more w n 0 h.0 ∙ (λ i. h.1 i ∷ sym (take_all (length w - (n + 1)) (drop (n + 1) w) (omega (arith, length-drop (n + 1) w))) i))
-
-  front_lacks : Lacks 44 (front w n)
-  front_lacks k kl e =
-      let h = first_at 44 w n first in
-      let inside : k < n = omega (arith, length-take n w) in
-      h.2 k inside (sym (get_or-take n w k 0 inside) ∙ e)
-
-  -- these parts write the point's numbers
-  pub halves : (p : Point) → PointForm w p → Number (front w n) p.x × Number (behind w n) p.y
-  halves p f =
-      let same = parts w (front w n) (behind w n) p around front_lacks f in
-      (subst (λ v. Number v p.x) same.0 f.left, subst (λ v. Number v p.y) same.1 f.right)
 
 -- a point's first byte is its first number's
 point_sort : (first : Bool) (w : List ℕ) (p : Point) → PointForm w p → sort_of first w ≡ number

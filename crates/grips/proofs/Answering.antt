@@ -11,8 +11,7 @@ use Rattle.rules.specs.Values.{Coords}
 use Rattle.rules.specs.Sheets.{Sheet, Workings, bonds, unfit_values, unfit_relations, unfit}
 use Rattle.rules.specs.Gripping.{bad_roles, counted, shares, table}
 use Rattle.rules.specs.Calls.{grip_on, grip_answer}
-use Rattle.linear.proofs.Outcomes.{went_on}
-use Rattle.sheets.proofs.Accepted.{guard_ok}
+use Rattle.linear.proofs.Outcomes.{passed, went_on}
 use Rattle.workings.specs.Chosen.{bare, unready, gripped}
 use Rattle.workings.proofs.Bonds.{grip_on-bonds, ready_from}
 
@@ -27,13 +26,13 @@ module _ (size : ℕ) (s : Sheet) (vs : List Coords) (rs : List Relation) (qs : 
   told : grip_on (length (take s.count roles)) (take s.count roles) (bare (length (take s.count roles)) (take s.bound rs)) ≡ grip_on s.count (take s.count roles) (bonds s rs qs)
   told = ap (λ (n : ℕ). grip_on n (take s.count roles) (bare n (take s.bound rs))) many ∙ sym (grip_on-bonds s (take s.count roles) rs qs h)
 
-  passed : (ltb (length roles) s.count || ltb (length spare) 12 || unfit size s vs rs qs) ≡ false
-  passed = or_from (ltb (length roles) s.count || ltb (length spare) 12) _ (or_from (ltb (length roles) s.count) _ (le-ltb _ _ long) (le-ltb _ _ room)) fine
+  none : (ltb (length roles) s.count || ltb (length spare) 12 || unfit size s vs rs qs) ≡ false
+  none = or_from (ltb (length roles) s.count || ltb (length spare) 12) _ (or_from (ltb (length roles) s.count) _ (le-ltb _ _ long) (le-ltb _ _ room)) fine
 
   pub answered : gripped (take s.bound rs) (take s.count roles) ≡ grip_answer size s vs rs qs roles spare
   answered =
       ap (λ (b : Bool). guard b Unfit (grip_on (length (take s.count roles)) (take s.count roles) (bare (length (take s.count roles)) (take s.bound rs)))) ready
-      ∙ told ∙ sym (ap (λ (b : Bool). guard b Unfit (grip_on s.count (take s.count roles) (bonds s rs qs))) passed)
+      ∙ told ∙ sym (ap (λ (b : Bool). guard b Unfit (grip_on s.count (take s.count roles) (bonds s rs qs))) none)
 
 -- what an accepted grip tells of its workings
 pub record Accepted (size : ℕ) (s : Sheet) (vs : List Coords) (rs : List Relation) (qs : List Coords) (roles : List Role) (spare : List ℕ) (w : Workings) : Type 0 where
@@ -56,12 +55,12 @@ pub accepted : (size : ℕ) (s : Sheet) (vs : List Coords) (rs : List Relation) 
 accepted size s vs rs qs roles spare w e =
     let n = s.count in
     let bs = bonds s rs qs in
-    let a = guard_ok (ltb (length roles) n || ltb (length spare) 12 || unfit size s vs rs qs) Unfit (grip_on n (take n roles) bs) w e in
+    let a = passed (ltb (length roles) n || ltb (length spare) 12 || unfit size s vs rs qs) Unfit (grip_on n (take n roles) bs) w (sym e) in
     let b = or_parts (ltb (length roles) n || ltb (length spare) 12) (unfit size s vs rs qs) a.0 in
     let d = or_parts (ltb (length roles) n) (ltb (length spare) 12) b.0 in
-    let f = guard_ok (bad_roles n (take n roles)) Roles _ w a.1 in
-    let h = guard_ok (ltb 12 (length (counted n (take n roles) bs))) Crowded _ w f.1 in
-    let t = went_on (table n (take n roles) (counted n (take n roles) bs)) (λ t. Ok (record { count = n; m = length (counted n (take n roles) bs); table = t; roles = take n roles; shares = shares n (take n roles) })) w (sym h.1) in
+    let f = passed (bad_roles n (take n roles)) Roles _ w a.1 in
+    let h = passed (ltb 12 (length (counted n (take n roles) bs))) Crowded _ w f.1 in
+    let t = went_on (table n (take n roles) (counted n (take n roles) bs)) (λ t. Ok (record { count = n; m = length (counted n (take n roles) bs); table = t; roles = take n roles; shares = shares n (take n roles) })) w h.1 in
     let same : w.roles ≡ take n roles = ap roles_of (sym t.2) in
     record {
       fine = b.1;

@@ -1,24 +1,17 @@
 -- One way to write a heading, and one way to read it.
-use Rattle.std.proofs.Common.{◌≡◌, ℕ, ◌+◌, ◌<◌, ◌≤◌, List, [], ◌∷◌, ◌++◌, length, get_or, take, Ok, Err, Result, sym, ap, ◌∙◌, subst, ⊎_elim, append_assoc, append-nil, arith}
-use Rattle.std.proofs.lemmas.List.{take_more}
+use Rattle.std.proofs.Common.{◌≡◌, ℕ, ◌<◌, ◌≤◌, List, [], ◌∷◌, ◌++◌, length, take, Ok, Err, Result, sym, ap, ◌∙◌, subst, ⊎_elim, arith}
 use Rattle.words.specs.declared.fault.Fault.{Fault}
 use Rattle.words.specs.Faults.{Refuses}
 use Rattle.words.specs.Lines.{Placed}
 use Rattle.words.specs.Words.{joined_by, spaced}
 use Rattle.words.proofs.Appends.{refuses_map}
-use Rattle.words.proofs.Cuts.{spaced-append, joined-spaced}
+use Rattle.words.proofs.Cuts.{joined-spaced}
 use Rattle.heading.specs.declared.kind.KindWord.{KindWord}
 use Rattle.heading.specs.declared.read.Heading.{Heading}
 use Rattle.heading.specs.Names.{Names}
 use Rattle.heading.specs.Headings.{kind_word, kind_laws, Headed, names_of, HeadingRead}
 use Rattle.heading.proofs.Heads.{headed_words}
 use Rattle.heading_write.specs.Writes.{HeadingWritten, OneReading, OneSpelling, Reread}
-
--- one word more, behind a space
-pub spaced_more : (ws : List (List ℕ)) (i : ℕ) (w t₀ t₁ t₂ t₃ : List ℕ) (d : ℕ) → i < length ws → get_or ws i [] ≡ w → t₁ ≡ t₀ ++ spaced (take i ws) → t₂ ≡ t₁ ++ d ∷ [] → d ≡ 32 → t₃ ≡ t₂ ++ w → t₃ ≡ t₀ ++ spaced (take (i + 1) ws)
-spaced_more ws i w t₀ t₁ t₂ t₃ d l e a b is h =
-    let last : spaced (take (i + 1) ws) ≡ spaced (take i ws) ++ 32 ∷ w = ap spaced (take_more ws i [] l ∙ ap (λ x. take i ws ++ x ∷ []) e) ∙ spaced-append (take i ws) (w ∷ []) ∙ ap (λ x. spaced (take i ws) ++ 32 ∷ x) (append-nil w) in
-    h ∙ ap (λ t. t ++ w) (b ∙ (λ j. a j ++ is j ∷ [])) ∙ append_assoc (t₀ ++ spaced (take i ws)) (32 ∷ []) w ∙ append_assoc t₀ (spaced (take i ws)) (32 ∷ w) ∙ ap (λ x. t₀ ++ x) (sym last)
 
 pub heading_joined : (kind : KindWord) (names : List (List ℕ)) (t₀ t₁ t₂ t₃ : List ℕ) → t₀ ≡ [] → t₁ ≡ t₀ ++ kind_word kind → t₂ ≡ t₁ ++ spaced names → t₃ ≡ t₂ ++ 10 ∷ [] → t₃ ≡ joined_by 32 (kind_word kind ∷ names) ++ 10 ∷ []
 heading_joined kind names t₀ t₁ t₂ t₃ none a b d =

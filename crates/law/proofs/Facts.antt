@@ -27,6 +27,7 @@ use Rattle.rules.specs.Sheets.{Sheet, Bond, no_bond, bonds, relation_at, Working
 use Rattle.rules.specs.Gripping.{role, share, is_loose, is_weight, bad_weight, bad_roles, counts, counted, coef, is_needed, is_spare, row_of, mark_of, shares, table}
 use Rattle.rules.specs.Calls.{grip_on, grip_answer, marks_after}
 use Rattle.rules.proofs.Bonds.{nth, marked-at}
+use Rattle.rules.proofs.Counting.{counted-append}
 use Rattle.rules.proofs.Roles.{good-weights, share-≥0, weight_is}
 use Rattle.law.specs.Facts.{table_after, Pivots, Diagonal, WorkedOut, AcceptedGrip, Combination, SpareExactly}
 
@@ -79,24 +80,15 @@ accepted-grip size s vs rs qs roles list w e =
 
 -- ---- the relations that count, split at one
 module _ (n : ℕ) (roles : List Role) where
-  counted-append : (a b : List Bond) → counted n roles (a ++ b) ≡ counted n roles a ++ counted n roles b
-  counted-append [] b = refl
-  counted-append (r ∷ a) b = by (counts n roles r.coefs) (counted-append a b)
-    where
-      by : (x : Bool) → counted n roles (a ++ b) ≡ counted n roles a ++ counted n roles b
-          → cond x (r ∷ counted n roles (a ++ b)) (counted n roles (a ++ b)) ≡ cond x (r ∷ counted n roles a) (counted n roles a) ++ counted n roles b
-      by true e = λ i. r ∷ e i
-      by false e = e
-
   split_at : (a : List Bond) (r : Bond) (b : List Bond) → counts n roles r.coefs ≡ true → counted n roles (a ++ (r ∷ b)) ≡ counted n roles a ++ (r ∷ counted n roles b)
-  split_at a r b e = counted-append a (r ∷ b) ∙ (λ i. counted n roles a ++ cond (e i) (r ∷ counted n roles b) (counted n roles b))
+  split_at a r b e = counted-append n roles a (r ∷ b) ∙ (λ i. counted n roles a ++ cond (e i) (r ∷ counted n roles b) (counted n roles b))
 
   -- the row of relation i is how many of the earlier ones count
   row_is : (bs : List Bond) (i : ℕ) → i ≤ length bs → row_of n roles bs i ≡ length (counted n roles (take i bs))
   row_is bs zero l = refl
   row_is bs (suc i) l =
       by (counts n roles (get_or bs i no_bond).coefs) refl (row_is bs i (omega arith))
-      ∙ sym (ap (λ (xs : List Bond). length xs) (counted-append (take i bs) (get_or bs i no_bond ∷ [])))
+      ∙ sym (ap (λ (xs : List Bond). length xs) (counted-append n roles (take i bs) (get_or bs i no_bond ∷ [])))
       ∙ ap (λ (xs : List Bond). length (counted n roles xs)) (sym (take_more bs i no_bond l) ∙ ap (λ (k : ℕ). take k bs) (add-one i))
     where
       by : (x : Bool) → counts n roles (get_or bs i no_bond).coefs ≡ x → row_of n roles bs i ≡ length (counted n roles (take i bs))

@@ -9,6 +9,7 @@ use Rattle.whole.specs.Lists.{coord}
 use Rattle.whole.specs.Tests.{any, nonzero}
 use Rattle.whole.specs.Gcd.{gcd_all}
 use Rattle.whole.proofs.Lists.{get_or-tab}
+use Rattle.whole.proofs.Sizes.{size_of}
 use Rattle.whole.proofs.Tests.{any_false, any_true, nonzero_false, nonzero_true, is_nonzero}
 use Rattle.whole.proofs.Divisors.{gcd_all-divides}
 use Rattle.whole.proofs.Multiples.{multiplier}
@@ -18,10 +19,6 @@ use Rattle.rules.specs.Values.{Coords}
 use Rattle.rules.specs.Gripping.{is_needed}
 use Rattle.rules.specs.Pulling.{contradicts, divisors, lowered, lowered_sums, common, multipliers}
 use Rattle.law.proofs.Divided.{coord-grid, factor-above, common-above, common-multiple}
-
-size_of : (a : ℤ) → pos 0 ≤ℤ a → pos (nat_abs a) ≡ a
-size_of (pos n) h = refl
-size_of (negsuc n) h = absurd (omega (arith, ints))
 
 some_size : (a : ℤ) → a ≢ pos 0 → 0 < nat_abs a
 some_size (pos zero) d = absurd (d refl)

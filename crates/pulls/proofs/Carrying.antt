@@ -6,7 +6,7 @@ use Rattle.whole.proofs.Sizes.{product-≤, sum-≤}
 use Rattle.whole.proofs.Tests.{any_false, above_false}
 use Rattle.rules.specs.Values.{Coords}
 use Rattle.rules.specs.Pulling.{some_above}
-use Rattle.sheets.proofs.Gaps.{sum_more}
+use Rattle.whole.proofs.Sums.{sum_more}
 use Rattle.pulls.specs.Steps.{plus}
 use Rattle.pulls.proofs.Adding.{added}
 

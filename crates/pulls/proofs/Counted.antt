@@ -8,6 +8,7 @@ use Rattle.whole.specs.Lists.{tab}
 use Rattle.rules.specs.Values.{Coords}
 use Rattle.rules.specs.Sheets.{Sheet, Bond, bond, bonds, relation_at}
 use Rattle.rules.specs.Gripping.{counts, counted}
+use Rattle.rules.proofs.Counting.{counted-append}
 use Rattle.roles.specs.Places.{counting, places}
 use Rattle.workings.proofs.Counting.{counts-take}
 use Rattle.pulls.specs.Rows.{chosen}
@@ -15,15 +16,6 @@ use Rattle.pulls.specs.Rows.{chosen}
 tab_push : {X : Type 0} (k : ℕ) (f : ℕ → X) → tab (suc k) f ≡ tab k f ++ (f k ∷ [])
 tab_push zero f = refl
 tab_push (suc k) f = ap (λ (xs : List _). f 0 ∷ xs) (tab_push k (λ i. f (suc i)))
-
-counted-append : (n : ℕ) (roles : List Role) (xs ys : List Bond) → counted n roles (xs ++ ys) ≡ counted n roles xs ++ counted n roles ys
-counted-append n roles [] ys = refl
-counted-append n roles (x ∷ xs) ys = by (counts n roles x.coefs) (counted-append n roles xs ys)
-  where
-    by : (b : Bool) → counted n roles (xs ++ ys) ≡ counted n roles xs ++ counted n roles ys
-        → cond b (x ∷ counted n roles (xs ++ ys)) (counted n roles (xs ++ ys)) ≡ cond b (x ∷ counted n roles xs) (counted n roles xs) ++ counted n roles ys
-    by true e = ap (λ l. x ∷ l) e
-    by false e = e
 
 module _ (roles : List Role) (rs : List Relation) (qs : List Coords) (b : ℕ) where
   f : ℕ → Bond

@@ -1,5 +1,5 @@
 -- Diagonal numbers and what their rows carry, in lowest terms.
-use Rattle.std.proofs.Common.{◌≡◌, ℕ, zero, suc, ◌+◌, ◌/◌, ◌<◌, Bool, true, false, cond, not, ◌&&◌, eqb, ltb, List, [], ◌∷◌, length, get_or, ℤ, pos, negsuc, ◌*ℤ◌, nat_abs, Ok, Err, Result, sym, refl, ap, ◌∙◌, ap₂, true≢false, arith}
+use Rattle.std.proofs.Common.{◌≡◌, ℕ, zero, suc, ◌+◌, ◌/◌, ◌<◌, Bool, true, false, cond, not, ◌&&◌, eqb, ltb, List, [], ◌∷◌, length, get_or, ℤ, pos, ◌*ℤ◌, nat_abs, Ok, Err, Result, sym, refl, ap, ◌∙◌, ap₂, true≢false, arith}
 use native.Mathlib.Nat.{zero-div}
 use lib.Signed.{quot_z}
 use Rattle.std.proofs.lemmas.Bool.{lt-ltb, ne_eqb}
@@ -16,16 +16,11 @@ use Rattle.linear.specs.Elimination.{Grid, entry, right_half}
 use Rattle.rules.specs.Values.{Coords}
 use Rattle.rules.specs.Gripping.{is_needed}
 use Rattle.rules.specs.Pulling.{carried, divisors, lowered, lowered_sums}
-use Rattle.sheets.proofs.Sizes.{beyond-above}
+use Rattle.sheets.proofs.Gaps.{above-nonzero}
 use Rattle.pulls.specs.Steps.{divisor_from, quotients, lower, carried_at}
 use Rattle.whole.specs.Gcd.{gcd_all}
 use Rattle.pulls.proofs.Placed.{tabbed}
 use Rattle.pulls.proofs.Divisors.{divisor_of_all}
-
-pub above-nonzero : (x : ℤ) → above 0 x ≡ nonzero x
-above-nonzero (pos zero) = refl
-above-nonzero (pos (suc n)) = beyond-above 0 (pos (suc n)) (omega arith)
-above-nonzero (negsuc n) = beyond-above 0 (negsuc n) (omega arith)
 
 module _ (size p : ℕ) (us : Coords) where
   same_test : any size (λ c. above 0 (at us c)) ≡ any size (λ c. nonzero (at us c))

@@ -1,5 +1,5 @@
 -- One relation's residual, term by term.
-use Rattle.std.proofs.Common.{◌≡◌, ℕ, zero, suc, ◌+◌, ◌<◌, ◌≤◌, false, List, [], ◌∷◌, length, get_or, replicate, ℤ, pos, ◌+ℤ◌, ◌-ℤ◌, ◌*ℤ◌, nat_abs, sym, refl, ap, ◌∙◌, ap₂, arith}
+use Rattle.std.proofs.Common.{◌≡◌, ℕ, zero, suc, ◌+◌, ◌<◌, ◌≤◌, false, List, [], ◌∷◌, length, get_or, replicate, ℤ, pos, ◌+ℤ◌, ◌-ℤ◌, ◌*ℤ◌, nat_abs, sym, ap, ◌∙◌, ap₂, arith}
 use lib.IntN.{+ℤ_idl}
 use borrow.Author.Differences.{ints}
 use Rattle.std.proofs.lemmas.List.{length-replicate}
@@ -17,14 +17,10 @@ use Rattle.rules.specs.Pulling.{if_held, if_moving, far_wish}
 use Rattle.rules.specs.Bounds.{CoefsWithin, ConstantsWithin}
 use Rattle.rules.proofs.Bounds.{residual-within}
 use Rattle.rules.proofs.Fit.{fit_values}
-use Rattle.sheets.proofs.Gaps.{sum_more}
+use Rattle.whole.proofs.Lists.{zeros-at}
+use Rattle.whole.proofs.Sums.{sum_more}
 use Rattle.pulls.specs.Steps.{plus, factor, taken, less_terms, residual_at}
 use Rattle.pulls.proofs.Adding.{added}
-
-zeros-at : (size c : ℕ) → at (replicate size (pos 0)) c ≡ pos 0
-zeros-at zero c = refl
-zeros-at (suc size) zero = refl
-zeros-at (suc size) (suc c) = zeros-at size c
 
 pub zero_at : (size : ℕ) (us : List ℤ) → us ≡ replicate size (pos 0) → (c : ℕ) → at us c ≡ pos 0
 zero_at size us e c = ap (λ (l : List ℤ). at l c) e ∙ zeros-at size c

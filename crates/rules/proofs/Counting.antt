@@ -1,5 +1,5 @@
 -- The relations that count, among all.
-use Rattle.std.proofs.Common.{◌≡◌, ℕ, zero, suc, ◌<◌, Bool, true, false, cond, not, ◌&&◌, ◌⊎◌, List, [], ◌∷◌, length, get_or, pos, refl, inl, inr, ⊎_elim, suc-le-suc, zero-le, le_of_suc-le-suc, not-suc-le-zero}
+use Rattle.std.proofs.Common.{◌≡◌, ℕ, zero, suc, ◌<◌, Bool, true, false, cond, not, ◌&&◌, ◌⊎◌, List, [], ◌∷◌, ◌++◌, length, get_or, pos, refl, ap, inl, inr, ⊎_elim, suc-le-suc, zero-le, le_of_suc-le-suc, not-suc-le-zero}
 use mathlib.Core.Bool.{false≢true}
 use Rattle.std.proofs.lemmas.Bool.{and_cases, not-false}
 use Rattle.whole.specs.Lists.{at}
@@ -11,6 +11,15 @@ use Rattle.rules.specs.Sheets.{Bond, no_bond}
 use Rattle.rules.specs.Gripping.{role, is_held, counts, counted}
 
 module _ (n : ℕ) (roles : List Role) where
+  pub counted-append : (xs ys : List Bond) → counted n roles (xs ++ ys) ≡ counted n roles xs ++ counted n roles ys
+  counted-append [] ys = refl
+  counted-append (x ∷ xs) ys = by (counts n roles x.coefs) (counted-append xs ys)
+    where
+      by : (b : Bool) → counted n roles (xs ++ ys) ≡ counted n roles xs ++ counted n roles ys
+          → cond b (x ∷ counted n roles (xs ++ ys)) (counted n roles (xs ++ ys)) ≡ cond b (x ∷ counted n roles xs) (counted n roles xs) ++ counted n roles ys
+      by true e = ap (λ l. x ∷ l) e
+      by false e = e
+
   -- what holds of each relation holds of each that counts, and past the end
   pub counted_all : (P : Bond → Type 0) (bs : List Bond) → ((i : ℕ) → P (get_or bs i no_bond)) → (j : ℕ) → P (get_or (counted n roles bs) j no_bond)
   counted_all P [] h j = h 0

@@ -1,5 +1,5 @@
 -- The sum of coefficient × value, term by term.
-use Rattle.std.proofs.Common.{◌≡◌, ℕ, zero, suc, ◌+◌, ◌*◌, ◌<◌, ◌≤◌, cond, List, [], length, get_or, replicate, ℤ, pos, negsuc, ◌+ℤ◌, ◌-ℤ◌, ◌*ℤ◌, neg_ℤ, nat_abs, sym, refl, ap, ◌∙◌, subst, ap₂, add-one, arith, get_or-take}
+use Rattle.std.proofs.Common.{◌≡◌, ℕ, zero, suc, ◌+◌, ◌*◌, ◌<◌, ◌≤◌, cond, List, [], length, get_or, replicate, ℤ, pos, negsuc, ◌+ℤ◌, ◌-ℤ◌, ◌*ℤ◌, neg_ℤ, nat_abs, sym, refl, ap, ◌∙◌, subst, ap₂, arith, get_or-take}
 use borrow.Author.Differences.{ints}
 use Rattle.std.proofs.lemmas.List.{length-replicate}
 use Rattle.whole.specs.Lists.{at, coord}
@@ -7,7 +7,8 @@ use Rattle.whole.specs.Sums.{sum}
 use Rattle.whole.specs.Tests.{above, nonzero, differ}
 use Rattle.whole.proofs.Sizes.{nat_abs_neg}
 use Rattle.whole.proofs.Integers.{neg-*}
-use Rattle.whole.proofs.Sums.{sum_ext}
+use Rattle.whole.proofs.Lists.{zeros-at}
+use Rattle.whole.proofs.Sums.{sum_ext, sum_more}
 use Rattle.kinds.specs.Coords.{plus_scaled}
 use Rattle.kinds.specs.Outcomes.{all_fit}
 use Rattle.rules.specs.Sheets.{bond}
@@ -15,9 +16,10 @@ use Rattle.sheets.specs.Gap.{gap_at}
 use Rattle.sheets.proofs.Sizes.{beyond-above}
 use Rattle.sheets.proofs.Combining.{Within, within_all, combined-at, combined-size}
 
-pub sum_more : (n : ℕ) (f : ℕ → ℤ) → sum (n + 1) f ≡ sum n f +ℤ f n
-unfolding sum
-sum_more n f = ap (λ (k : ℕ). sum k f) (add-one n)
+pub above-nonzero : (x : ℤ) → above 0 x ≡ nonzero x
+above-nonzero (pos zero) = refl
+above-nonzero (pos (suc n)) = beyond-above 0 (pos (suc n)) (omega arith)
+above-nonzero (negsuc n) = beyond-above 0 (negsuc n) (omega arith)
 
 -- 1,000 × 47,560 × 45,000, the largest term
 abbrev pub term : ℕ
@@ -26,11 +28,6 @@ term = 2140200000000
 pub sum-none : (a : ℤ) (f : ℕ → ℤ) → a ≡ a +ℤ sum 0 f
 unfolding sum
 sum-none a f = omega (arith, ints)
-
-zeros-at : (size c : ℕ) → at (replicate size (pos 0)) c ≡ pos 0
-zeros-at zero c = refl
-zeros-at (suc size) zero = refl
-zeros-at (suc size) (suc c) = zeros-at size c
 
 -- the first step: − d × the constant
 module _ (size : ℕ) (d : ℤ) (q us ws : List ℤ) (sized : length q ≡ size) (high : nat_abs d ≤ 45000) (small : (c : ℕ) → c < size → nat_abs (at q c) ≤ 47560000)
@@ -87,11 +84,6 @@ pub gap_differs : (n : ℕ) (d : ℤ) (vs : List (List ℤ)) (cs q : List ℤ) (
 gap_differs n d vs cs q z c e = above-nonzero z ∙ ap nonzero (e ∙ turned (at q c) (sum n (λ s. at cs s *ℤ coord vs s c))
     ∙ ap (λ (x : ℤ). x -ℤ d *ℤ at q c) (sum_ext n (λ s l. ap (λ (x : ℤ). x *ℤ coord vs s c) (sym (get_or-take n cs s (pos 0) l)))))
   where
-    above-nonzero : (x : ℤ) → above 0 x ≡ nonzero x
-    above-nonzero (pos zero) = refl
-    above-nonzero (pos (suc n)) = beyond-above 0 (pos (suc n)) (omega arith)
-    above-nonzero (negsuc n) = beyond-above 0 (negsuc n) (omega arith)
-
     turned : (a b : ℤ) → neg_ℤ d *ℤ a +ℤ b ≡ b -ℤ d *ℤ a
     turned a b = ap (λ (x : ℤ). x +ℤ b) (neg-* d a) ∙ swapped (d *ℤ a)
       where

@@ -1,18 +1,14 @@
 -- Values written one place after the other.
-use Rattle.std.proofs.Common.{◌≡◌, ℕ, zero, suc, ◌+◌, ◌<◌, ◌≤◌, List, [], ◌∷◌, ◌++◌, map, length, take, drop, get_or, set, replicate, ℤ, pos, sym, refl, ap, ◌∙◌, ap₂, zero-add, arith, append-nil}
+use Rattle.std.proofs.Common.{◌≡◌, ℕ, ◌+◌, ◌<◌, ◌≤◌, List, [], ◌∷◌, ◌++◌, map, length, take, drop, get_or, set, replicate, ℤ, pos, sym, refl, ap, ◌∙◌, ap₂, zero-add, arith, append-nil}
 use lib.Seq.{paste}
 use Rattle.std.specs.List.{FoldsTo}
 use Rattle.std.proofs.lemmas.List.{map-set, map-append, drop-map, length-map, length-take-le, take_all, drop_all}
 use Rattle.std.proofs.lemmas.List.Edits.{paste_more}
-use Rattle.whole.specs.Lists.{tab}
 use Rattle.records.specs.declared.relation.Mark.TheVariants.{Idle}
 use Rattle.rules.specs.Limits.{most_parameters}
+use Rattle.kinds.specs.Lists.{tab_same}
 use Rattle.rules.specs.Values.{zeros, written}
 use Rattle.rules.specs.Calls.{recorded}
-
-replicate-tab : (size : ℕ) (z : ℤ) → replicate size z ≡ tab size (λ c. z)
-replicate-tab zero z = refl
-replicate-tab (suc size) z = ap (λ (xs : List ℤ). z ∷ xs) (replicate-tab size z)
 
 -- a list of values with place s written too
 pub written_more : {K : Type 0} (f : K → List ℤ) (start xs : List K) (new : List (List ℤ)) (s : ℕ) (v : K) → s < length new → s < length start → f v ≡ get_or new s []
@@ -27,7 +23,7 @@ written_more f start xs new s v long room e p =
 -- a list of values that each were made zero
 pub filled : {K P : Type 0} (f : K → List ℤ) (size : ℕ) (made : P → K → P → Type 0) → ((p : P) (x : K) (q : P) → made p x q → f x ≡ replicate size (pos 0)) → (p : P) (xs : List K) (q : P) → FoldsTo made p xs q → map f xs ≡ zeros (length xs) size
 filled f size made h p [] q e = refl
-filled f size made h p (x ∷ xs) q e = ap₂ (λ (u : List ℤ) (us : List (List ℤ)). u ∷ us) (h p x e.0 e.1 ∙ replicate-tab size (pos 0)) (filled f size made h e.0 xs q e.2)
+filled f size made h p (x ∷ xs) q e = ap₂ (λ (u : List ℤ) (us : List (List ℤ)). u ∷ us) (h p x e.0 e.1 ∙ sym (tab_same size (pos 0))) (filled f size made h e.0 xs q e.2)
 
 -- all places are written
 pub written_all : {X : Type 0} (n : ℕ) (new old : List X) → length new ≤ n → length old ≤ n → written n new old ≡ new

@@ -1,5 +1,5 @@
 -- A loop that writes place after place.
-use Rattle.std.proofs.Common.{◌≡◌, ℕ, zero, suc, ◌+◌, ◌-◌, ◌<◌, Bool, false, List, [], ◌∷◌, ◌++◌, length, get_or, drop, set, ℤ, pos, ◌+ℤ◌, sym, refl, ap, ◌∙◌, append_assoc, add-one, arith}
+use Rattle.std.proofs.Common.{◌≡◌, ℕ, zero, suc, ◌+◌, ◌-◌, ◌<◌, Bool, false, List, [], ◌∷◌, ◌++◌, length, get_or, drop, set, ℤ, pos, sym, refl, ap, ◌∙◌, append_assoc, add-one, arith}
 use Rattle.std.proofs.lemmas.List.{drop_more, set_at, get_or-append_right, get_or-drop}
 use Rattle.std.proofs.lemmas.Bool.{or_from}
 use Rattle.whole.specs.Lists.{tab}
@@ -35,7 +35,3 @@ any_more n p e f = ap (λ (k : ℕ). any k p) (add-one n) ∙ or_from (any n p) 
 pub sum-none : (f : ℕ → ℤ) → sum 0 f ≡ pos 0
 unfolding sum
 sum-none f = refl
-
-pub sum_more : (n : ℕ) (f : ℕ → ℤ) → sum (n + 1) f ≡ sum n f +ℤ f n
-unfolding sum
-sum_more n f = ap (λ (k : ℕ). sum k f) (add-one n)

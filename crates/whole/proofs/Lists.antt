@@ -1,5 +1,5 @@
 -- Lists by index: what stands at each place, and how long they are.
-use Rattle.std.proofs.Common.{◌≡◌, ℕ, zero, suc, ◌<◌, List, [], ◌∷◌, map, length, get_or, ℤ, pos, sym, refl, ap, suc-le-suc, zero-le, le_of_suc-le-suc, not-suc-le-zero}
+use Rattle.std.proofs.Common.{◌≡◌, ℕ, zero, suc, ◌<◌, List, [], ◌∷◌, map, length, get_or, replicate, ℤ, pos, sym, refl, ap, suc-le-suc, zero-le, le_of_suc-le-suc, not-suc-le-zero}
 use Rattle.whole.specs.Lists.{tab, at}
 
 pub tab-length {ℓ} : {X : Type ℓ} (n : ℕ) (f : ℕ → X) → length (tab n f) ≡ n
@@ -33,3 +33,9 @@ pub at_map : (f : ℤ → ℤ) (xs : List ℤ) (i : ℕ) → f (pos 0) ≡ pos 0
 at_map f [] i e = sym e
 at_map f (x ∷ xs) zero e = refl
 at_map f (x ∷ xs) (suc i) e = at_map f xs i e
+
+-- a list of zeros
+pub zeros-at : (n i : ℕ) → at (replicate n (pos 0)) i ≡ pos 0
+zeros-at zero i = refl
+zeros-at (suc n) zero = refl
+zeros-at (suc n) (suc i) = zeros-at n i

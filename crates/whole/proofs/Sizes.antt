@@ -1,5 +1,5 @@
 -- Sizes of products and sums.
-use Rattle.std.proofs.Common.{◌≡◌, ℕ, zero, suc, ◌+◌, ◌*◌, ◌^◌, ◌<◌, ◌≤◌, ℤ, pos, negsuc, ◌+ℤ◌, ◌-ℤ◌, ◌*ℤ◌, neg_ℤ, nat_abs, sym, refl, subst, mul-le-mul, arith, w64, SFits}
+use Rattle.std.proofs.Common.{◌≡◌, ℕ, zero, suc, ◌+◌, ◌*◌, ◌^◌, ◌<◌, ◌≤◌, ℤ, pos, negsuc, ◌+ℤ◌, ◌-ℤ◌, ◌*ℤ◌, neg_ℤ, nat_abs, ◌≤ℤ◌, sym, refl, subst, mul-le-mul, arith, w64, SFits}
 use borrow.Author.Differences.{ints}
 use Rattle.whole.specs.Sums.{sum}
 
@@ -16,6 +16,11 @@ nat_abs-* (negsuc a) (negsuc b) = refl
 
 pub nat_abs-+ : (a b : ℤ) → nat_abs (a +ℤ b) ≤ nat_abs a + nat_abs b
 nat_abs-+ a b = omega (arith, ints)
+
+-- a number that is not below 0 is its size
+pub size_of : (a : ℤ) → pos 0 ≤ℤ a → pos (nat_abs a) ≡ a
+size_of (pos n) h = refl
+size_of (negsuc n) h = absurd (omega (arith, ints))
 
 pub nat_abs-- : (a b : ℤ) → nat_abs (a -ℤ b) ≤ nat_abs a + nat_abs b
 nat_abs-- a b = omega (arith, ints)

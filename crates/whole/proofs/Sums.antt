@@ -1,5 +1,5 @@
 -- Laws of sums over the indices below a bound.
-use Rattle.std.proofs.Common.{◌≡◌, ℕ, zero, suc, ◌<◌, ◌≢◌, ◌⊎◌, ℤ, pos, ◌+ℤ◌, ◌*ℤ◌, ◌≤ℤ◌, sym, refl, ap, ◌∙◌, inl, inr, ⊎_elim, not-suc-le-zero, arith}
+use Rattle.std.proofs.Common.{◌≡◌, ℕ, zero, suc, ◌+◌, ◌<◌, ◌≢◌, ◌⊎◌, ℤ, pos, ◌+ℤ◌, ◌*ℤ◌, ◌≤ℤ◌, sym, refl, ap, ◌∙◌, inl, inr, ⊎_elim, not-suc-le-zero, add-one, arith}
 use native.Mathlib.Decide.{ℕ_discrete}
 use lib.IntN.{*ℤ-zero, *ℤ_comm, +ℤ_idl, +ℤ_idr}
 use lib.Signed.{≤ℤ_refl}
@@ -11,6 +11,10 @@ pub sum_ext : (n : ℕ) {f g : ℕ → ℤ} → ((i : ℕ) → i < n → f i ≡
 unfolding sum
 sum_ext zero h = refl
 sum_ext (suc n) h = λ t. sum_ext n (λ i l. h i (omega arith)) t +ℤ h n (omega arith) t
+
+pub sum_more : (n : ℕ) (f : ℕ → ℤ) → sum (n + 1) f ≡ sum n f +ℤ f n
+unfolding sum
+sum_more n f = ap (λ (k : ℕ). sum k f) (add-one n)
 
 pub sum_zero : (n : ℕ) {f : ℕ → ℤ} → ((i : ℕ) → i < n → f i ≡ pos 0) → sum n f ≡ pos 0
 unfolding sum

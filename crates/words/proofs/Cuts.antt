@@ -1,6 +1,6 @@
 -- Bytes cut at a byte, and joined again.
 use Rattle.std.proofs.Common.{◌≡◌, ℕ, zero, suc, ◌+◌, ◌<◌, ◌≤◌, Bool, true, false, cond, eqb, ltb, Some, None, List, [], ◌∷◌, ◌++◌, length, get_or, take, drop, add-one, lt-ltb, MatchBool, sym, refl, ap, ◌∙◌, subst, ⊎_elim, append_assoc, append-nil, arith, is_none}
-use Rattle.std.proofs.lemmas.List.{take_at, drop_at}
+use Rattle.std.proofs.lemmas.List.{take_at, take_more, drop_at}
 use Rattle.std.proofs.lemmas.Bool.{cond-true, cond-false, eq-eqb, ne_eqb, eqb-true, eqb-false, cases_eq, cases_order}
 use Rattle.std.proofs.lemmas.List.Sums.{fails_before_first}
 use Rattle.std.proofs.lemmas.List.Quantifiers.{position-Some}
@@ -111,6 +111,12 @@ lacks_all (b ∷ w) a (suc k) l e = lacks_all w a.1 k (omega arith) e
 pub spaced-append : (us ws : List (List ℕ)) → spaced (us ++ ws) ≡ spaced us ++ spaced ws
 spaced-append [] ws = refl
 spaced-append (u ∷ us) ws = ap (λ l. 32 ∷ l) (ap (λ l. u ++ l) (spaced-append us ws) ∙ sym (append_assoc u (spaced us) (spaced ws)))
+
+-- one word more, behind a space
+pub spaced_more : (ws : List (List ℕ)) (i : ℕ) (w t₀ t₁ t₂ t₃ : List ℕ) (d : ℕ) → i < length ws → get_or ws i [] ≡ w → t₁ ≡ t₀ ++ spaced (take i ws) → t₂ ≡ t₁ ++ d ∷ [] → d ≡ 32 → t₃ ≡ t₂ ++ w → t₃ ≡ t₀ ++ spaced (take (i + 1) ws)
+spaced_more ws i w t₀ t₁ t₂ t₃ d l e a b is h =
+    let last : spaced (take (i + 1) ws) ≡ spaced (take i ws) ++ 32 ∷ w = ap spaced (take_more ws i [] l ∙ ap (λ x. take i ws ++ x ∷ []) e) ∙ spaced-append (take i ws) (w ∷ []) ∙ ap (λ x. spaced (take i ws) ++ 32 ∷ x) (append-nil w) in
+    h ∙ ap (λ t. t ++ w) (b ∙ (λ j. a j ++ is j ∷ [])) ∙ append_assoc (t₀ ++ spaced (take i ws)) (32 ∷ []) w ∙ append_assoc t₀ (spaced (take i ws)) (32 ∷ w) ∙ ap (λ x. t₀ ++ x) (sym last)
 
 pub joined-spaced : (w : List ℕ) (ws : List (List ℕ)) → joined_by 32 (w ∷ ws) ≡ w ++ spaced ws
 joined-spaced w [] = sym (append-nil w)

@@ -1,5 +1,5 @@
 -- The relations that count, taken one after the other.
-use Rattle.std.proofs.Common.{◌≡◌, ℕ, zero, suc, ◌+◌, ◌<◌, Bool, true, false, cond, not, ◌&&◌, ltb, List, [], ◌∷◌, ◌++◌, map, length, get_or, take, drop, ℤ, pos, Ok, Err, sym, refl, ap, ◌∙◌, not-suc-le-zero, arith}
+use Rattle.std.proofs.Common.{◌≡◌, ℕ, zero, suc, ◌+◌, ◌<◌, Bool, true, false, cond, not, ◌&&◌, ltb, List, [], ◌∷◌, ◌++◌, map, length, get_or, take, drop, ℤ, pos, Ok, Err, sym, ap, ◌∙◌, not-suc-le-zero, arith}
 use Rattle.std.proofs.lemmas.List.{append-nil, get_or-take, map_more, map_push, map-append, take-append-drop, length-map, length-append}
 use Rattle.std.proofs.lemmas.Bool.{lt-ltb}
 use Rattle.records.specs.declared.refusal.Refusal.TheVariants.{Crowded}
@@ -9,6 +9,7 @@ use Rattle.records.specs.declared.role.Role.{Role}
 use Rattle.records.specs.Outcomes.{guard}
 use Rattle.whole.specs.Tests.{nonzero}
 use Rattle.whole.proofs.Tests.{any_ext}
+use Rattle.rules.proofs.Counting.{counted-append}
 use Rattle.rules.specs.Gripping.{role, is_held, counts, counted}
 use Rattle.rules.specs.Sheets.{Bond, bond, no_bond, relation_at}
 use Rattle.workings.specs.Chosen.{bare}
@@ -21,15 +22,6 @@ module _ (n : ℕ) (roles : List Role) where
   pub same_length : (bs : List Bond) (rows : List (List ℤ)) → map (take n) rows ≡ map (λ b. b.coefs) bs → length rows ≡ length bs
   same_length bs rows e = sym (length-map rows (take n)) ∙ ap length e ∙ length-map bs (λ (b : Bond). b.coefs)
 
-  counted-append : (xs ys : List Bond) → counted n roles (xs ++ ys) ≡ counted n roles xs ++ counted n roles ys
-  counted-append [] ys = refl
-  counted-append (x ∷ xs) ys = by (counts n roles x.coefs) (counted-append xs ys)
-    where
-      by : (b : Bool) → counted n roles (xs ++ ys) ≡ counted n roles xs ++ counted n roles ys
-          → cond b (x ∷ counted n roles (xs ++ ys)) (counted n roles (xs ++ ys)) ≡ cond b (x ∷ counted n roles xs) (counted n roles xs) ++ counted n roles ys
-      by true e = ap (λ l. x ∷ l) e
-      by false e = e
-
   module _ (rs : List Relation) (i : ℕ) (h : i < length rs) where
     next : Bond
     next = bond n (relation_at rs i).coefficients []
@@ -38,7 +30,7 @@ module _ (n : ℕ) (roles : List Role) where
     unfolding next
     counted_more b e =
         ap (counted n roles) (map_more (λ (r : Relation). bond n r.coefficients []) rs i (record { coefficients = []; mark = Idle }) h)
-        ∙ counted-append (bare n (take i rs)) (bond n (relation_at rs i).coefficients [] ∷ [])
+        ∙ counted-append n roles (bare n (take i rs)) (bond n (relation_at rs i).coefficients [] ∷ [])
         ∙ ap (λ (c : Bool). counted n roles (bare n (take i rs)) ++ cond c (bond n (relation_at rs i).coefficients [] ∷ []) []) (counts-take n roles (relation_at rs i).coefficients ∙ sym e)
 
     module _ (rows : List (List ℤ)) (so : map (take n) rows ≡ map (λ b. b.coefs) (counted n roles (bare n (take i rs)))) where
@@ -65,7 +57,7 @@ module _ (n : ℕ) (roles : List Role) where
           whole =
               ap (λ xs. counted n roles (bare n xs)) (sym (take-append-drop (i + 1) rs))
               ∙ ap (counted n roles) (map-append (λ (r : Relation). bond n r.coefficients []) (take (i + 1) rs) (drop (i + 1) rs))
-              ∙ counted-append (bare n (take (i + 1) rs)) (bare n (drop (i + 1) rs))
+              ∙ counted-append n roles (bare n (take (i + 1) rs)) (bare n (drop (i + 1) rs))
 
           more : 12 < length (counted n roles (bare n rs))
           more =

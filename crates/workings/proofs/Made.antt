@@ -34,7 +34,8 @@ use Rattle.table.proofs.Grids.{entry-grid, cell-size}
 use Rattle.workings.specs.Chosen.{bare, unready}
 use Rattle.workings.specs.Facts.{Finished}
 use Rattle.workings.proofs.Counting.{counted-each, same_length}
-use Rattle.workings.proofs.Shares.{share_low, share_high, share-least}
+use Rattle.rules.proofs.Roles.{share-≥0, share-≤}
+use Rattle.workings.proofs.Shares.{share_low}
 
 -- the first table depends on v(s) and R(i, s) alone
 pub start_ext : (n m : ℕ) (v v' : ℕ → ℤ) (R R' : ℕ → ℕ → ℤ) → ((s : ℕ) → s < n → v s ≡ v' s) → ((i : ℕ) → i < m → (s : ℕ) → s < n → R i s ≡ R' i s) → start n m v R ≡ start n m v' R'
@@ -117,7 +118,7 @@ module _ (roles : List Role) (rs : List Relation) where
           ∙ or_from _ _
           (or_from _ _
           (or_from (ltb 48 n) (ltb 12 m) (le-ltb 48 n few) (le-ltb 12 m few_rows))
-          (none_any n _ (λ s l. within-above 12 (at vs s) (subst (λ (x : ℤ). nat_abs x ≤ 12) (sym (share_is s l)) (share_high (role roles s) (weights s l))))))
+          (none_any n _ (λ s l. within-above 12 (at vs s) (subst (λ (x : ℤ). nat_abs x ≤ 12) (sym (share_is s l)) (share-≤ (role roles s) (weights s l))))))
           (none_any m _ (λ i h. let e = many in any_ext n _ _ (λ s l. ap (above 1000) (coef_is i h s l)) ∙ coefs_fine i (omega arith)))
 
       -- the outcome of the elimination
@@ -152,7 +153,7 @@ module _ (roles : List Role) (rs : List Relation) where
         table_so = sym table_is ∙ finished_so
 
         least : (s : ℕ) → s < n → pos 0 ≤ℤ share (role roles s)
-        least s l = share-least (role roles s) (weights s l)
+        least s l = share-≥0 (role roles s) (weights s l)
 
         meaning : Meaning n (length bs) (λ s. share (role roles s)) (coef bs) (grid m t)
         meaning = finished n (length bs) (λ s. share (role roles s)) (coef bs) (grid m t) least table_so
@@ -166,7 +167,7 @@ module _ (roles : List Role) (rs : List Relation) where
           within = cell-size m t (accepted m m (start (length vs) m (at vs) (coord rows)) (grid m t) finished_so).1;
           upright = λ i h. subst (λ (x : ℤ). pos 0 ≤ℤ x) (entry-grid m t i i h (omega arith)) (meaning.diagonal i (let e = many in omega arith));
           low = λ s l q. subst (λ (x : ℤ). pos 1 ≤ℤ x) (sym (stored_share s l)) (share_low (role roles s) (weights s l) (ap is_loose (sym (role_is s l)) ∙ q));
-          high = λ s l. subst (λ (x : ℤ). nat_abs x ≤ 12) (sym (stored_share s l)) (share_high (role roles s) (weights s l));
+          high = λ s l. subst (λ (x : ℤ). nat_abs x ≤ 12) (sym (stored_share s l)) (share-≤ (role roles s) (weights s l));
         }
 
         pub shown_is : ◌≡◌ {A = Result rules.Workings Refusal} (Ok (record { count = n; m = m; table = grid m t; roles = take n kept; shares = vs }))

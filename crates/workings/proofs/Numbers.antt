@@ -1,11 +1,10 @@
 -- What is read from workings, as its bits show it.
-use Rattle.std.proofs.Common.{◌≡◌, ℕ, ◌+◌, ◌≤◌, [], ℤ, pos, negsuc, nat_abs, ◌≤ℤ◌, refl, ap, ◌∙◌, arith, w64, to_z, of_z}
-use borrow.Author.Differences.{ints}
+use Rattle.std.proofs.Common.{◌≡◌, ℕ, ◌+◌, ◌≤◌, [], ℤ, pos, nat_abs, ◌≤ℤ◌, ap, ◌∙◌, arith, w64, to_z, of_z}
 use Rattle.std.proofs.lemmas.List.{get_or_past}
 use Rattle.std.proofs.lemmas.Int.{to_z-of_z}
 use Rattle.whole.specs.Lists.{tab, at}
 use Rattle.whole.proofs.Lists.{tab-length}
-use Rattle.whole.proofs.Sizes.{fits}
+use Rattle.whole.proofs.Sizes.{fits, size_of}
 use Rattle.linear.specs.Elimination.{entry, table_limit}
 use Rattle.table.specs.declared.table.Table.{Table}
 use Rattle.table.specs.Tables.{cell, grid}
@@ -16,11 +15,7 @@ module _ (z : ℤ) (small : nat_abs z ≤ table_limit) (least : pos 0 ≤ℤ z) 
   back = to_z-of_z w64 z (fits z (omega arith))
 
   pub reads : (pos (nat_abs (to_z w64 (of_z w64 z))) ≡ z) × (nat_abs (to_z w64 (of_z w64 z)) ≤ table_limit)
-  reads = (ap (λ (x : ℤ). pos (nat_abs x)) back ∙ size z least, (let e = ap nat_abs back in omega arith))
-    where
-      size : (x : ℤ) → pos 0 ≤ℤ x → pos (nat_abs x) ≡ x
-      size (pos n) h = refl
-      size (negsuc n) h = absurd (omega (arith, ints))
+  reads = (ap (λ (x : ℤ). pos (nat_abs x)) back ∙ size_of z least, (let e = ap nat_abs back in omega arith))
 
 -- there is no row past the last
 pub no_entry : (m : ℕ) (t : Table) (i j : ℕ) → m ≤ i → entry (grid m t) i j ≡ pos 0

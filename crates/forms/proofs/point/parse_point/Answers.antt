@@ -1,7 +1,7 @@
 use Rattle.std.proofs.Common.{sym, ◌∙◌, subst, arith, w64, SFits, rules}
 use Rattle.std.proofs.lemmas.Int.{ints}
 use Rattle.words.specs.Numbers.{Number}
-use Rattle.forms.specs.Points.{no_comma, around, halves, front, behind}
+use Rattle.forms.proofs.Points.{no_comma, around, halves, front, behind}
 use Rattle.forms.proofs.point.parse_point.Goals as goal
 
 pub returns-in_err-comma : goal.returns-in_err-comma

@@ -3,7 +3,7 @@ use Rattle.std.proofs.lemmas.List.{take_all}
 use Rattle.words.specs.Words.{spaced}
 use Rattle.heading.specs.Names.{texts}
 use Rattle.heading.proofs.Rows.{length-texts, texts-at}
-use Rattle.heading_write.proofs.Heads.{spaced_more}
+use Rattle.words.proofs.Cuts.{spaced_more}
 use Rattle.heading_write.proofs.write.put_names.Goals as goal
 
 pub loop-name-preserved : goal.loop-name-preserved

@@ -3,7 +3,8 @@ use Rattle.std.proofs.lemmas.Int.{to_z-of_z}
 use Rattle.whole.specs.Lists.{at}
 use Rattle.whole.specs.Sums.{sum}
 use Rattle.whole.proofs.Sizes.{nat_abs-+, fits}
-use Rattle.table.proofs.Places.{sum-none, sum_more}
+use Rattle.whole.proofs.Sums.{sum_more}
+use Rattle.table.proofs.Places.{sum-none}
 use Rattle.table.proofs.start.weighted_sum.Goals as goal
 
 module _ (c : goal.After-weighted-sum) where
