@@ -1,5 +1,5 @@
 -- What a kind's promises give back, by coordinates.
-use Rattle.std.specs.Prelude.{ℕ, ◌^◌, Bool, cond, not, ◌||◌, List, length, ℤ, ◌+ℤ◌, ◌*ℤ◌, Ok, Err, Result, nat_lt, slice_set}
+use Rattle.std.specs.Prelude.{ℕ, zero, suc, ◌^◌, Bool, true, false, cond, not, ◌||◌, List, length, ℤ, pos, negsuc, ◌+ℤ◌, ◌*ℤ◌, Ok, Err, Result, nat_lt, slice_set}
 use Rattle.std.specs.Int.Signed.{mag}
 use Rattle.records.specs.declared.refusal.Refusal.{Refusal}
 use Rattle.records.specs.declared.refusal.Refusal.TheVariants.{NoCoordinate, DoesNotFit}
@@ -10,6 +10,13 @@ use Rattle.kinds.specs.Coords.{plus_scaled}
 -- z is from -2^63 to 2^63 - 1: `mag` is z itself, and -z - 1 below 0.
 abbrev pub fits64 : ℤ → Bool
 fits64 z = nat_lt (mag z) (2 ^ 63)
+
+-- k is 0 or -1.
+abbrev pub is_unit : ℤ → Bool
+is_unit (pos zero) = true
+is_unit (pos (suc n)) = false
+is_unit (negsuc zero) = true
+is_unit (negsuc (suc n)) = false
 
 -- The product k × v, or the sum u + k × v, does not fit 64 signed bits.
 abbrev pub misfit : ℤ → ℤ → ℤ → Bool

@@ -1,7 +1,8 @@
 // What stands on a line behind its verb.
-ghost use Rattle.std.specs.Prelude.{◌≡◌, ◌≢◌, [], MatchResult};
+ghost use Rattle.std.specs.Prelude.{◌≡◌, ◌≢◌, [], MatchResult, IfErr};
 ghost use Rattle.std.specs.Result.{result_ok};
 ghost use Rattle.words.specs.Reading.{left};
+ghost use Rattle.words.specs.declared.fault.Fault.TheVariants.{Form};
 ghost use Rattle.forms.specs.Rows.{OneRead, RowRead};
 ghost use Rattle.lines.specs.Lines.{ReadBy};
 
@@ -24,6 +25,7 @@ impl Rest<'_> {
     fn one<T: Written>(&mut self) -> Result<T, Fault>
         ensures stays { self.new.count ≡ self.old.count }
         ensures read { OneRead T.form (left self.old.reader) (left self.new.reader) (result_ok result) }
+        ensures form { IfErr result (λ e. e ≡ Form) }
     {
         read_value(&mut self.reader).ok_or(Fault::Form)
     }
@@ -38,7 +40,8 @@ impl Rest<'_> {
 
     // Refuses words that are left over.
     fn end(&self) -> Result<(), Fault>
-        ensures { MatchResult result (λ _. left self.now.reader ≡ []) (λ _. left self.now.reader ≢ []) }
+        ensures read { MatchResult result (λ _. left self.now.reader ≡ []) (λ _. left self.now.reader ≢ []) }
+        ensures form { IfErr result (λ e. e ≡ Form) }
     {
         if !self.reader.at_end() {
             return Err(Fault::Form);

@@ -42,7 +42,7 @@ made [] = []
 made (None ∷ asks) = made asks
 made (Some call ∷ asks) = call ∷ made asks
 
--- the answers in the order of the lines: 16 to a line that asks for no call, and to one that asks for a call what that call gave back
+-- the answers in the order of the lines: 16 to a line that asks for no call, and to one that asks for a call what that call gave back; a run has a reply to each call, so that none is missing
 abbrev pub answered : List Bool → List Reply → List Reply
 answered [] replies = []
 answered (false ∷ asks) replies = Err refusal.Form ∷ answered asks replies

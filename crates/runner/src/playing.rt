@@ -46,6 +46,7 @@ fn play<V: Written + Kind + Drop>(
     ensures { Appended (Played V.form V.size V.coords count (lines (uncut rest.old))) out.old.items out.new.items result }
 {
     let script = read_script::<V>(heap, count, rest)?;
+    // a sheet of 1 to 48 parameters is opened wherever there is memory for it
     let ran = run(heap, count, script.calls.as_slice()).map_err(|_| Fault::Memory)?;
     put_answers(script.made.as_slice(), ran.answers.as_slice(), out)
 }

@@ -8,7 +8,8 @@ ghost use Rattle.whole.specs.Lists.{at, coord};
 
 use crate::elimination::eliminate;
 use crate::limits::some_row_above;
-use crate::start::first_rows;
+use crate::row::Row;
+use crate::start::write_first;
 use crate::table::Table;
 use records::Refusal;
 use whole::some_above;
@@ -32,7 +33,8 @@ impl Table {
             return Err(Refusal::Unfit);
         }
         let m = rows.len();
-        let mut all = first_rows(shares, rows);
+        let mut all = [Row { cells: [0; 24] }; 12];
+        write_first(&mut all[..m], shares, rows);
         eliminate(&mut all[..m])?;
         Ok(Table { rows: all })
     }

@@ -1,4 +1,4 @@
-ghost use Rattle.std.specs.Prelude.{◌≡◌, ◌+◌, ◌<◌, ◌≤◌, false, ◌++◌, length, drop, replicate, take, pos, ◌*ℤ◌, slice_set, unsigned_abs};
+ghost use Rattle.std.specs.Prelude.{◌≡◌, ◌+◌, ◌<◌, ◌≤◌, false, ◌++◌, length, drop, replicate, pos, ◌*ℤ◌, slice_set, unsigned_abs};
 ghost use Rattle.linear.specs.Elimination.{start};
 ghost use Rattle.linear.specs.Gram.{gram};
 ghost use Rattle.table.specs.Limits.{Within, outside};
@@ -32,32 +32,31 @@ fn weighted_sum(shares: &[i64], xs: &[i64; 48], ys: &[i64; 48]) -> i64
     sum
 }
 
-// Row i of the first table: row i of the sums, then 1 in place i of the unit matrix and 0 elsewhere.
-fn first_row(i: usize, shares: &[i64], rows: &[[i64; 48]]) -> Row
-    requires row { i < length rows.now }
-    requires limits { outside (length shares.now) (length rows.now) shares.now rows.now ≡ false }
-    ensures { let m = length rows.now in
-        result.cells ≡ slice_set (tab m (gram (length shares.now) (at shares.now) (coord rows.now) i) ++ drop m (replicate 24 (pos 0))) (m + i) (pos 1) }
-{
-    let mut row = Row { cells: [0; 24] };
-    // by number: of a list that is written through a zip, a proof does not see what it becomes
-    for (j, other) in rows.iter().enumerate() {
-        row.cells[j] = weighted_sum(shares, &rows[i], other);
+impl Row {
+    // The row becomes row i of the first table: row i of the sums, then 1 in place i of the unit matrix and 0 elsewhere.
+    fn begin(&mut self, i: usize, shares: &[i64], rows: &[[i64; 48]])
+        requires row { i < length rows.now }
+        requires limits { outside (length shares.now) (length rows.now) shares.now rows.now ≡ false }
+        ensures { let m = length rows.now in
+            self.new.cells ≡ slice_set (tab m (gram (length shares.now) (at shares.now) (coord rows.now) i) ++ drop m (replicate 24 (pos 0))) (m + i) (pos 1) }
+    {
+        self.cells = [0; 24];
+        // by number: of a list that is written through a zip, a proof does not see what it becomes
+        for (j, other) in rows.iter().enumerate() {
+            self.cells[j] = weighted_sum(shares, &rows[i], other);
+        }
+        self.cells[rows.len() + i] = 1;
     }
-    row.cells[rows.len() + i] = 1;
-    row
 }
 
-// The first table's rows: the sums, then the unit matrix. The places after them are 0.
-pub(crate) fn first_rows(shares: &[i64], rows: &[[i64; 48]]) -> [Row; 12]
-    requires { outside (length shares.now) (length rows.now) shares.now rows.now ≡ false }
-    ensures { rows_grid (take (length rows.now) result) ≡ start (length shares.now) (length rows.now) (at shares.now) (coord rows.now) }
+// The rows become the first table's: the sums, then the unit matrix. The places after them are 0.
+pub(crate) fn write_first(all: &mut [Row], shares: &[i64], rows: &[[i64; 48]])
+    requires many { length all.old ≡ length rows.now }
+    requires limits { outside (length shares.now) (length rows.now) shares.now rows.now ≡ false }
+    ensures { rows_grid all.new ≡ start (length shares.now) (length rows.now) (at shares.now) (coord rows.now) }
 {
-    let mut all = [Row { cells: [0; 24] }; 12];
-    let m = rows.len();
     // a row's 1 stands by the row's number
-    for (i, row) in all[..m].iter_mut().enumerate() {
-        *row = first_row(i, shares, rows);
+    for (i, row) in all.iter_mut().enumerate() {
+        row.begin(i, shares, rows);
     }
-    all
 }

@@ -1,8 +1,12 @@
 -- The greatest common divisor of two numbers, and of a list's.
-use Rattle.std.proofs.Common.{◌≡◌, ℕ, zero, suc, ◌/◌, ◌%◌, ◌<◌, ◌⊎◌, List, [], ◌∷◌, ℤ, pos, negsuc, ◌*ℤ◌, neg_ℤ, nat_abs, fold, refl, ap, ◌∙◌, ⊎_elim, not-suc-le-zero, mod-lt, arith}
+use Rattle.std.proofs.Common.{◌≡◌, ℕ, zero, suc, ◌/◌, ◌%◌, ◌<◌, ◌⊎◌, List, [], ◌∷◌, ℤ, pos, negsuc, ◌*ℤ◌, neg_ℤ, nat_abs, fold, take, drop, refl, sym, ap, ◌∙◌, ⊎_elim, not-suc-le-zero, mod-lt, arith}
 use Prim.Native.Nat.{◌∣◌}
 use native.Mathlib.Nat.{dvd_refl, dvd_trans, dvd-mod_iff, dvd-zero, le_of_dvd, pos_of_dvd_of_pos, mul-div_cancel'}
 use lib.Signed.{quot_z}
+use Rattle.std.proofs.lemmas.Nat.Gcd.{dvd_antisymm}
+use Rattle.std.proofs.Math.Nat.{one-dvd}
+use Rattle.std.proofs.lemmas.List.{take-append-drop}
+use Rattle.std.proofs.lemmas.List.Sums.{fold-append}
 use Rattle.whole.specs.Gcd.{euclid, gcd, gcd_all}
 use Rattle.whole.specs.Lists.{at}
 use Rattle.whole.specs.Laws.{GreatestDivisor, GreatestOfAll}
@@ -59,6 +63,9 @@ gcd_is a b = record {
   greatest = λ k p q h. le_of_dvd (gcd-above a b h) (gcd-greatest a b k p q);
 }
 
+pub gcd_comm : (a b : ℕ) → gcd a b ≡ gcd b a
+gcd_comm a b = dvd_antisymm (gcd-greatest b a (gcd a b) (gcd-right a b) (gcd-left a b)) (gcd-greatest a b (gcd b a) (gcd-right b a) (gcd-left b a))
+
 -- ---- the numbers of a list
 fold-divides : (xs : List ℤ) (g : ℕ) → (fold (λ g x. gcd g (nat_abs x)) g xs ∣ g) × ((i : ℕ) → fold (λ g x. gcd g (nat_abs x)) g xs ∣ nat_abs (at xs i))
 fold-divides [] g = (dvd_refl g, λ i. dvd-zero g)
@@ -76,6 +83,17 @@ fold-divides (x ∷ xs) g =
 
 pub gcd_all-divides : (xs : List ℤ) (i : ℕ) → gcd_all xs ∣ nat_abs (at xs i)
 gcd_all-divides xs i = (fold-divides xs 0).1 i
+
+-- no number changes a divisor of 1
+fold_one : (xs : List ℤ) → fold (λ g x. gcd g (nat_abs x)) 1 xs ≡ 1
+fold_one xs = dvd_antisymm (fold-divides xs 1).0 (one-dvd _)
+
+pub gcd_all_one : (xs : List ℤ) (n : ℕ) → gcd_all (take n xs) ≡ 1 → gcd_all xs ≡ 1
+gcd_all_one xs n e =
+    ap gcd_all (sym (take-append-drop n xs))
+    ∙ fold-append (λ g x. gcd g (nat_abs x)) 0 (take n xs) (drop n xs)
+    ∙ ap (λ g. fold (λ g x. gcd g (nat_abs x)) g (drop n xs)) e
+    ∙ fold_one (drop n xs)
 
 fold-greatest : (xs : List ℤ) (g k : ℕ) → k ∣ g → ((i : ℕ) → k ∣ nat_abs (at xs i)) → k ∣ fold (λ g x. gcd g (nat_abs x)) g xs
 fold-greatest [] g k h d = h

@@ -61,4 +61,4 @@ returns-in_err-end g c =
       | in-Keep w ↦ begun_at form count _ _ ws _ _ _ _ (begun-keep form count ws) w.in-Keep.is (ap (λ (r : Rest). left r.reader) w.self-is) (ap (said {V = g.row.V.Denot}) w.line-is)
       | in-Drop w ↦ begun_at form count _ _ ws _ _ _ _ (begun-drop form count ws) w.in-Drop.is (ap (λ (r : Rest). left r.reader) w.self-is) (ap (said {V = g.row.V.Denot}) w.line-is)
     ] in
-    rw (p.1, p.2) (refused c.in_err-end.field-0.0 _ (more_left form count c.args.verb ws (left c.match-verb.self.reader) (said {V = g.row.V.Denot} c.match-verb.line) begun c.in_err-end.ensures))
+    rw (p.1, p.2) (refused c.in_err-end.field-0.0 _ (more_left form count c.args.verb ws (left c.match-verb.self.reader) (said {V = g.row.V.Denot} c.match-verb.line) begun c.in_err-end.ensures.read))
