@@ -1,2 +1,1 @@
-mod Scripts
 mod Answering

@@ -1,13 +1,11 @@
 -- What a card prints.
-use Rattle.std.specs.Prelude.{◌≡◌, ℕ, ◌<◌, ◌≤◌, ◌⊎◌, Bool, true, false, is_some, List, [], ◌∷◌, ◌++◌, map, length, codes, Some, None, Ok, Err, Option, Result, Vec, vec_items}
+use Rattle.std.specs.Prelude.{◌≡◌, ℕ, ◌<◌, ◌≤◌, ◌⊎◌, Bool, true, false, is_some, List, [], ◌∷◌, ◌++◌, map, length, codes, Ok, Err, Option, Result, Vec, vec_items}
 use Rattle.words.specs.declared.fault.Fault.{Fault}
 use Rattle.words.specs.declared.fault.Fault.TheVariants.{Form, Memory}
 use Rattle.words.specs.Lines.{lines, joined}
 use Rattle.forms.specs.Rows.{Each}
 use Rattle.forms.specs.Values.{LengthForm, PointForm}
 use Rattle.kinds.specs.Models.{length_coords, point_coords}
-use Rattle.cells.specs.Cells.{role_of}
-use Rattle.lines.specs.Lines.{Said, binds, unbinds, grips, pulls, keeps, drops, Spelled}
 use Rattle.heading.specs.declared.kind.KindWord.{KindWord}
 use Rattle.heading.specs.declared.kind.KindWord.TheVariants.{Length, Point}
 use Rattle.heading.specs.Headings.{Headed}
@@ -16,31 +14,12 @@ use Rattle.rules.specs.Values.{Coords}
 use Rattle.rules.specs.Sheets.{Sheet}
 use Rattle.rules.specs.Pulling.{Placing}
 use Rattle.rules.specs.Calls.{opening}
-use Rattle.rules.specs.Runs.{Call, bind, unbind, grip, pull, keep, drop_grip, Reply}
+use Rattle.rules.specs.Runs.{Call, Reply}
 use Rattle.law.specs.Run.{Run}
+use Rattle.scripts.specs.Scripts.{Asks, made}
 use Rattle.steps.specs.Lists.{by_parameter}
 use Rattle.desk.specs.Desks.{fresh}
 use Rattle.answers.specs.Texts.{answer_text}
-
--- the call that a line asks for, by what it says: a cell gives its role, and a value its coordinates
-abbrev pub asked : {V : Type 0} → (V → Coords) → Said V → Call
-asked f (binds cs q) = bind cs (f q)
-asked f (unbinds n) = unbind n
-asked f (grips cells) = grip (map role_of cells)
-asked f (pulls vs) = pull (map f vs)
-asked f keeps = keep
-asked f drops = drop_grip
-
--- a line asks for the call that its bytes spell, and for none where they spell no line
-abbrev pub Asks : {V : Type 0} → (List ℕ → V → Type 0) → (V → Coords) → ℕ → List ℕ → Option Call → Type 0
-Asks form f count line (Some call) = (s : Said _) × Spelled form count line s × (call ≡ asked f s)
-Asks form f count line None = (s : Said _) → Spelled form count line s → ⊥
-
--- the calls that were asked for
-abbrev pub made : List (Option Call) → List Call
-made [] = []
-made (None ∷ asks) = made asks
-made (Some call ∷ asks) = call ∷ made asks
 
 -- the answers in the order of the lines: 16 to a line that asks for no call, and to one that asks for a call what that call gave back; a run has a reply to each call, so that none is missing
 abbrev pub answered : List Bool → List Reply → List Reply
@@ -89,3 +68,8 @@ abbrev pub Prints : {G : Type 0} → List ℕ → Result (Vec ℕ G) Fault → T
 Prints card (Ok text) = Ran card (vec_items text) ⊎ Barred card (vec_items text)
 Prints card (Err Form) = ⊥
 Prints card (Err Memory) = Unit {0}
+
+-- a text of the form was appended, unless there was no memory for it
+abbrev pub Appended : (List ℕ → Type 0) → List ℕ → List ℕ → Result (Unit {0}) Fault → Type 0
+Appended Text before after (Ok x) = (text : List ℕ) × (after ≡ before ++ text) × Text text
+Appended Text before after (Err e) = e ≡ Memory

@@ -4,16 +4,15 @@ ghost use Rattle.words.specs.Faults.{Done};
 ghost use Rattle.words.specs.Lines.{lines, uncut, joined};
 ghost use Rattle.calls.specs.Shown.{reply_of};
 ghost use Rattle.answers.specs.Texts.{answer_text};
-ghost use Rattle.runner.specs.Cards.{answered, Played, PlayedOn};
-ghost use Rattle.runner.specs.Scripts.{Appended};
+ghost use Rattle.runner.specs.Cards.{answered, Appended, Played, PlayedOn};
 
-use crate::script::read_script;
 use answers::put_answer;
 use calls::Answer;
 use forms::Written;
 use heading::KindWord;
 use kinds::{Kind, Length, Point};
 use records::Refusal;
+use scripts::read_script;
 use series::run;
 use std::alloc::Global;
 use words::{Fault, Lines};

@@ -2,8 +2,8 @@ use Rattle.std.proofs.Common.{[], ◌∷◌, map, vec_items, ap, ◌∙◌}
 use Rattle.std.proofs.lemmas.List.{map-append}
 use Rattle.lines.specs.Lines.{said}
 use Rattle.calls.specs.Shown.{call_of}
-use Rattle.runner.proofs.Scripts.{fewer, form_refused, call_read}
-use Rattle.runner.proofs.script.read_script.Goals as goal
+use Rattle.scripts.proofs.Scripts.{fewer, form_refused, call_read}
+use Rattle.scripts.proofs.script.read_script.Goals as goal
 
 pub loop-line-smaller-in_ok-push-in-Ok-2 : goal.loop-line-smaller-in_ok-push-in-Ok-2
 loop-line-smaller-in_ok-push-in-Ok-2 g c = fewer _ _ _ c.in-Some.ensures

@@ -1,8 +1,8 @@
 use Rattle.std.proofs.Common.{length, map, vec_items}
 use Rattle.words.specs.Lines.{lines, uncut}
 use Rattle.calls.specs.Shown.{call_of}
-use Rattle.runner.proofs.Scripts.{Read}
-use Rattle.runner.proofs.script.read_script.Given as goal
+use Rattle.scripts.proofs.Scripts.{Read}
+use Rattle.scripts.proofs.script.read_script.Given as goal
 
 -- the lines that are still to be read
 abbrev pub decreases-loop-line : goal.decreases-loop-line

@@ -3,7 +3,7 @@ ghost use Rattle.std.specs.Prelude.{◌≡◌, map, IfOk};
 ghost use Rattle.calls.specs.Shown.{call_of};
 ghost use Rattle.cells.specs.Cells.{role_of};
 ghost use Rattle.lines.specs.Lines.{said};
-ghost use Rattle.runner.specs.Cards.{asked};
+ghost use Rattle.scripts.specs.Scripts.{asked};
 
 use calls::Call;
 use cells::Cell;

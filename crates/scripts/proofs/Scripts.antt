@@ -8,8 +8,7 @@ use Rattle.forms.proofs.Rows.{each_push}
 use Rattle.lines.specs.Lines.{Said, Spelled}
 use Rattle.rules.specs.Values.{Coords}
 use Rattle.rules.specs.Runs.{Call}
-use Rattle.runner.specs.Cards.{asked, Asks, made}
-use Rattle.runner.specs.Scripts.{Scripted}
+use Rattle.scripts.specs.Scripts.{asked, Asks, made, Scripted}
 
 -- one line fewer is left when the first was taken
 pub fewer : (before after : List (List ℕ)) (line : List ℕ) → before ≡ line ∷ after → length after < length before

@@ -1,6 +1,6 @@
 // The calls of a card's lines.
 ghost use Rattle.words.specs.Lines.{lines, uncut};
-ghost use Rattle.runner.specs.Scripts.{ScriptRead};
+ghost use Rattle.scripts.specs.Scripts.{ScriptRead};
 
 use crate::asking::call_of;
 use calls::Call;
@@ -14,13 +14,13 @@ use words::{Fault, Lines};
 // The calls that a card's lines make, and for each line whether it made one. A series takes its calls as one list, so the lines
 // that made none are told apart from them.
 #[derive(Drop)]
-pub(crate) struct Script<V> {
-    pub(crate) calls: Vec<Call<V, Role>>,
-    pub(crate) made: Vec<bool>,
+pub struct Script<V> {
+    pub calls: Vec<Call<V, Role>>,
+    pub made: Vec<bool>,
 }
 
 // The script of the card's other lines, on a sheet of `count` names.
-pub(crate) fn read_script<V: Written + Kind + Drop>(
+pub fn read_script<V: Written + Kind + Drop>(
     heap: Global,
     count: usize,
     rest: &mut Lines<'_>,
