@@ -26,9 +26,6 @@ module _ {V : Type 0} (form : List ℕ → V → Type 0) (f : V → Coords) (cou
     pub cut : all ≡ done ++ left
     pub script : Scripted form f count done calls marks
 
-  pub none_read : (all : List (List ℕ)) → Read all all [] []
-  none_read all = record { done = []; cut = refl; script = record { asks = []; each = tt; calls_are = refl; marks_are = refl } }
-
   module _ (all before after : List (List ℕ)) (line : List ℕ) (e : before ≡ line ∷ after) (calls : List Call) (marks : List Bool) (r : Read all before calls marks) where
     cut_more : all ≡ (r.done ++ line ∷ []) ++ after
     cut_more = r.cut ∙ ap (λ ls. r.done ++ ls) e ∙ sym (append_assoc r.done (line ∷ []) after)
@@ -58,7 +55,3 @@ module _ {V : Type 0} (form : List ℕ → V → Type 0) (f : V → Coords) (cou
         marks_are = is ∙ ap (λ ms. ms ++ true ∷ []) r.script.marks_are ∙ sym (map-append is_some r.script.asks (Some call ∷ []));
       };
     }
-
-  -- all lines were read
-  pub all_read : (all left : List (List ℕ)) (calls : List Call) (marks : List Bool) → Read all left calls marks → left ≡ [] → Scripted form f count all calls marks
-  all_read all left calls marks r e = rw (r.cut ∙ ap (λ ls. r.done ++ ls) e ∙ append-nil r.done) r.script
