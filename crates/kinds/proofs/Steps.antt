@@ -9,7 +9,7 @@ use Rattle.std.proofs.lemmas.Int.{to_z-of_z, quot-rem, rem_below, wrapping_mul_i
 use Rattle.std.proofs.lemmas.Bool.{lt-ltb, le-ltb, ltb-true, eq-eqb, ne_eqb}
 use Rattle.records.specs.declared.refusal.Refusal.{Refusal}
 use Rattle.records.specs.declared.refusal.Refusal.TheVariants.{DoesNotFit}
-use Rattle.whole.proofs.Integers.{+-*, neg-*}
+use Rattle.whole.proofs.Integers.{minus-one-*, +-*, neg-*}
 use Rattle.whole.proofs.Sizes.{nat_abs-*, nat_abs_neg, fits}
 use Rattle.kinds.specs.Outcomes.{fits64, misfit, is_unit, fused_at, combined}
 
@@ -31,12 +31,6 @@ fused_ok u k v p z f e g h =
     let a = fits_true (k *ℤ v) f in
     let b : fits64 (u +ℤ k *ℤ v) ≡ true = fits_true _ (rw e at g) in
     rw (a, b) (ap Ok (rw e at h))
-
-pub fused_no_sum : (u k v p : ℤ) → SFits w64 (k *ℤ v) → p ≡ k *ℤ v → (SFits w64 (u +ℤ p) → ⊥) → Err DoesNotFit ≡ fused_at u k v
-fused_no_sum u k v p f e g =
-    let a = fits_true (k *ℤ v) f in
-    let b : fits64 (u +ℤ k *ℤ v) ≡ false = fits_false _ (rw e at g) in
-    rw (a, b)
 
 -- both fit: then the bits of the steps are those of the numbers
 pub fused_made : (u k v : ℤ) → SFits w64 u → SFits w64 k → SFits w64 v → fits64 (k *ℤ v) ≡ true → fits64 (u +ℤ k *ℤ v) ≡ true
@@ -81,9 +75,6 @@ unit_is (pos (suc n)) e d = absurd (true≢false (sym e))
 unit_is (negsuc zero) e d = refl
 unit_is (negsuc (suc n)) e d = absurd (true≢false (sym e))
 
-pub minus_one : (v : ℤ) → negsuc 0 *ℤ v ≡ neg_ℤ v
-minus_one v = omega (arith, ints)
-
 pub neg_fits : (v : ℤ) → SFits w64 v → (of_z w64 v ≡ 2 ^ 63 → ⊥) → SFits w64 (neg_ℤ v)
 neg_fits (pos zero) f d = record { sfits = omega arith }
 neg_fits (pos (suc n)) f d = record { sfits = let h = f.sfits in omega arith }
@@ -92,7 +83,7 @@ neg_fits (negsuc n) f d = record { sfits = let h = f.sfits in omega arith }
 -- the sum with the negative number stands for the step
 pub minus-one-sum : (u k v : ℤ) → k ≡ negsuc 0 → SFits w64 (neg_ℤ v) → fits64 (u +ℤ neg_ℤ v) ≡ not (misfit u k v)
 minus-one-sum u k v e f =
-    let m : neg_ℤ v ≡ k *ℤ v = sym (minus_one v) ∙ ap (λ z. z *ℤ v) (sym e) in
+    let m : neg_ℤ v ≡ k *ℤ v = sym (minus-one-* v) ∙ ap (λ z. z *ℤ v) (sym e) in
     ap (λ z. fits64 (u +ℤ z)) m ∙ sum_alone u k v (sym (ap fits64 m) ∙ fits_true _ f)
 
 -- ---- the test of a product by division

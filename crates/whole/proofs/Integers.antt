@@ -29,6 +29,9 @@ pub *-assoc : (a b c : ℤ) → (a *ℤ b) *ℤ c ≡ a *ℤ (b *ℤ c)
 pub neg-* : (a b : ℤ) → neg_ℤ a *ℤ b ≡ neg_ℤ (a *ℤ b)
 neg-* a b = let n = neg_is a in omega (arith, ints, ap (λ x. x * up b) n.0, ap (λ x. x * down b) n.0, ap (λ x. x * up b) n.1, ap (λ x. x * down b) n.1)
 
+pub minus-one-* : (a : ℤ) → negsuc 0 *ℤ a ≡ neg_ℤ a
+minus-one-* a = omega (arith, ints)
+
 pub one-* : (a : ℤ) → pos 1 *ℤ a ≡ a
 one-* a = omega (arith, ints)
 

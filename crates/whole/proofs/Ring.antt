@@ -3,7 +3,7 @@ use Rattle.std.proofs.Common.{◌≡◌, ℕ, zero, suc, Bool, true, false, ◌&
 use lib.IntN.{*ℤ_comm, +ℤ_idl, +ℤ_idr, *ℤ-zero}
 use borrow.Author.Differences.{ints}
 use Rattle.whole.specs.Tests.{is_zero}
-use Rattle.whole.proofs.Integers.{*-+, +-*, *-assoc, cancel}
+use Rattle.whole.proofs.Integers.{minus-one-*, *-+, +-*, *-assoc, cancel}
 
 -- An expression over numbered variables.
 infixl 6 ◌⊕◌ ◌⊖◌
@@ -125,16 +125,13 @@ var_is (suc i) [] = let h = var_is i [] in omega (arith, ints, none i)
     none i = refl
 var_is (suc i) (x ∷ ρ) = let h = var_is i ρ in omega (arith, ints)
 
-minus : (a : ℤ) → negsuc 0 *ℤ a ≡ neg_ℤ a
-minus a = omega (arith, ints)
-
 norm_is : (e : Exp) (ρ : List ℤ) → meaning (norm e) ρ ≡ value e ρ
 norm_is (v i) ρ = var_is i ρ
 norm_is (k c) ρ = refl
 norm_is (e ⊕ f) ρ = add_is (norm e) (norm f) ρ ∙ (λ i. norm_is e ρ i +ℤ norm_is f ρ i)
-norm_is (e ⊖ f) ρ = add_is (norm e) (mul_con (negsuc 0) (norm f)) ρ ∙ (λ i. norm_is e ρ i +ℤ (mul_con_is (negsuc 0) (norm f) ρ ∙ minus (meaning (norm f) ρ) ∙ ap neg_ℤ (norm_is f ρ)) i)
+norm_is (e ⊖ f) ρ = add_is (norm e) (mul_con (negsuc 0) (norm f)) ρ ∙ (λ i. norm_is e ρ i +ℤ (mul_con_is (negsuc 0) (norm f) ρ ∙ minus-one-* (meaning (norm f) ρ) ∙ ap neg_ℤ (norm_is f ρ)) i)
 norm_is (e ⊗ f) ρ = mul_is (norm e) (norm f) ρ ∙ (λ i. norm_is e ρ i *ℤ norm_is f ρ i)
-norm_is (⊝ e) ρ = mul_con_is (negsuc 0) (norm e) ρ ∙ minus (meaning (norm e) ρ) ∙ ap neg_ℤ (norm_is e ρ)
+norm_is (⊝ e) ρ = mul_con_is (negsuc 0) (norm e) ρ ∙ minus-one-* (meaning (norm e) ρ) ∙ ap neg_ℤ (norm_is e ρ)
 
 zero_is : (c : ℤ) → T (is_zero c) → c ≡ pos 0
 zero_is (pos zero) t = refl
