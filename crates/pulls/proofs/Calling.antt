@@ -16,9 +16,9 @@ use Rattle.rules.specs.Calls.{Pulled, pull_by, pulling}
 use Rattle.rules.proofs.Fit.{long_lists}
 use Rattle.roles.specs.Places.{places}
 use Rattle.sheets.proofs.Writing.{written_front}
-use Rattle.pulls.specs.Rows.{chosen, Fine}
+use Rattle.residuals.specs.Rows.{chosen, Fine}
 use Rattle.pulls.specs.Steps.{exactly}
-use Rattle.pulls.proofs.Chosen.{many-chosen}
+use Rattle.residuals.proofs.Chosen.{many-chosen}
 use Rattle.pulls.proofs.Counted.{counted-chosen, below_bound}
 use Rattle.pulls.proofs.Numbered.{numbered, rows_are}
 

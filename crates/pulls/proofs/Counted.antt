@@ -11,7 +11,7 @@ use Rattle.rules.specs.Gripping.{counts, counted}
 use Rattle.rules.proofs.Counting.{counted-append}
 use Rattle.roles.specs.Places.{counting, places}
 use Rattle.workings.proofs.Counting.{counts-take}
-use Rattle.pulls.specs.Rows.{chosen}
+use Rattle.residuals.specs.Rows.{chosen}
 
 tab_push : {X : Type 0} (k : ℕ) (f : ℕ → X) → tab (suc k) f ≡ tab k f ++ (f k ∷ [])
 tab_push zero f = refl

@@ -1,15 +1,4 @@
-pub mod Placed
-pub mod Adding
-pub mod Quotients
-pub mod Residual
-pub mod Carrying
-pub mod Chosen
-pub mod Divisors
-pub mod Lowering
-pub mod Multiplying
-pub mod Refusing
 pub mod Numbers
-pub mod Settled
 pub mod Within
 pub mod Finishing
 pub mod Solving

@@ -16,10 +16,11 @@ use Rattle.records.specs.declared.role.Role.{Role}
 use Rattle.records.specs.declared.role.Role.TheVariants.{Held, Pulled, Loose}
 use Rattle.rules.specs.Values.{Coords}
 use Rattle.rules.specs.Pulling.{numerator, far_wish, some_above}
-use Rattle.pulls.specs.Steps.{plus, numerator_over, shift_at}
-use Rattle.pulls.proofs.Placed.{tabbed}
-use Rattle.pulls.proofs.Adding.{added}
-use Rattle.pulls.proofs.Residual.{zero_at, zero_length}
+use Rattle.fractions.specs.Steps.{plus}
+use Rattle.pulls.specs.Steps.{numerator_over, shift_at}
+use Rattle.fractions.proofs.Placed.{tabbed}
+use Rattle.fractions.proofs.Adding.{added}
+use Rattle.fractions.proofs.Zeros.{zero_at, zero_length}
 
 -- a factor times a value
 module _ (size : ℕ) (none : List ℤ) (k : ℤ) (us ws : List ℤ) (zeros : none ≡ replicate size (pos 0)) (is : ws ≡ plus none k us) (within : (c : ℕ) → c < size → nat_abs (k *ℤ at us c) ≤ 5000000000000000000) where

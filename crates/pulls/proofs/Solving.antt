@@ -23,10 +23,11 @@ use Rattle.rules.specs.Values.{Coords}
 use Rattle.rules.specs.Sheets.{relation_at}
 use Rattle.rules.specs.Gripping.{role, coef, is_needed}
 use Rattle.rules.specs.Pulling.{Placing, divisors, lowered, lowered_sums, common, multipliers, numerator, numerators, lowest, settled, some_above, some_needed_above, contradicts, solved}
-use Rattle.pulls.specs.Rows.{chosen}
-use Rattle.pulls.specs.Multiple.{multiple, times, strays, multiplied, all_multiplied}
+use Rattle.residuals.specs.Rows.{chosen}
+use Rattle.fractions.specs.Multiple.{multiple, times, strays, multiplied}
+use Rattle.pulls.specs.Finish.{all_multiplied}
 use Rattle.pulls.specs.Finish.{numerators_by, finished}
-use Rattle.pulls.proofs.Chosen.{many-chosen, picked_coef}
+use Rattle.residuals.proofs.Chosen.{many-chosen, picked_coef}
 
 above-needed : (x : ℤ) (h : ℕ) → h ∣ nat_abs x → ltb 0 (nat_abs x / h) ≡ nonzero x
 above-needed (pos zero) h d = ap (ltb 0) (zero-div h)

@@ -7,7 +7,8 @@ use Rattle.whole.proofs.Lists.{get_or-tab, at-tab}
 use Rattle.whole.proofs.Tests.{any_false, none_any, any_ext}
 use Rattle.rules.specs.Values.{Coords}
 use Rattle.rules.specs.Pulling.{some_above}
-use Rattle.pulls.specs.Multiple.{times, strays, multiplied, all_multiplied}
+use Rattle.fractions.specs.Multiple.{times, strays, multiplied}
+use Rattle.pulls.specs.Finish.{all_multiplied}
 
 module _ (size l : ℕ) (ps : List ℕ) (us : List Coords) (spare : (i : ℕ) → i < length ps → get_or ps i 0 ≡ 0 → (c : ℕ) → c < size → coord us i c ≡ pos 0) where
   -- the multiplier of row i

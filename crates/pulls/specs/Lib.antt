@@ -1,4 +1,2 @@
 pub mod Steps
-pub mod Rows
-pub mod Multiple
 pub mod Finish

@@ -2,13 +2,8 @@
 #![tactic(auto)]
 
 mod finish;
-mod lists;
-mod multipliers;
 mod numerators;
 mod pull;
-mod residuals;
-mod rows;
-mod settling;
-mod task;
+mod wishes;
 
 pub use pull::propose;

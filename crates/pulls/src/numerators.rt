@@ -8,11 +8,10 @@ ghost use Rattle.workings.specs.Shown.{shown};
 ghost use Rattle.pulls.specs.Steps.{shift_at, numerator_over};
 ghost use Rattle.pulls.specs.Finish.{numerators_by};
 
-use crate::lists::add;
-use crate::multipliers::Multiple;
-use crate::task::Task;
+use fractions::{Multiple, add};
 use kinds::Kind;
 use records::Role;
+use residuals::Task;
 
 // One parameter's numerator: ℓ × n if it is held, e × wish if it is pulled, and that with its share of the shift if it is loose.
 fn numerator<K: Kind>(role: Role, l: i64, e: i64, value: K, wish: K, share: i64, moved: K) -> K
@@ -28,45 +27,48 @@ fn numerator<K: Kind>(role: Role, l: i64, e: i64, value: K, wish: K, share: i64,
     }
 }
 
-impl<K: Kind> Task<'_, K> {
-    // The sum over the rows of the coefficient of parameter s times the multiplier, which is zero in a spare row.
-    fn shift(&self, s: usize, multipliers: &[K]) -> K
-        requires place { s < (shown self.now.workings.now).count }
-        requires long { length self.now.rows.now ≤ length multipliers.now }
-        requires limited { some_above most_multiplier K.size (length self.now.rows.now) (map K.coords multipliers.now) ≡ false }
-        ensures { K.coords result ≡ tab K.size (shift_at self.now.relations.now self.now.rows.now (map K.coords multipliers.now) s) }
-    {
-        let mut sum = K::zero();
-        for (row, multiplier) in self.rows.iter().zip(multipliers) {
-            let relation = &self.relations[*row];
-            sum = add(sum, relation.coefficients[s], *multiplier);
-        }
-        sum
+// The sum over the rows of the coefficient of parameter s times the multiplier, which is zero in a spare row.
+fn shift<K: Kind>(task: &Task<'_, K>, s: usize, multipliers: &[K]) -> K
+    requires place { s < (shown task.now.workings.now).count }
+    requires long { length task.now.rows.now ≤ length multipliers.now }
+    requires limited { some_above most_multiplier K.size (length task.now.rows.now) (map K.coords multipliers.now) ≡ false }
+    ensures { K.coords result ≡ tab K.size (shift_at task.now.relations.now task.now.rows.now (map K.coords multipliers.now) s) }
+{
+    let mut sum = K::zero();
+    for (row, multiplier) in task.rows.iter().zip(multipliers) {
+        let relation = &task.relations[*row];
+        sum = add(sum, relation.coefficients[s], *multiplier);
     }
+    sum
+}
 
-    // Writes the numerators over ℓ × d of all parameters.
-    pub(crate) fn write_numerators(&self, multiple: Multiple, multipliers: &[K], proposal: &mut [K])
-        requires long { length self.now.rows.now ≤ length multipliers.now }
-        requires limited { some_above most_multiplier K.size (length self.now.rows.now) (map K.coords multipliers.now) ≡ false }
-        requires proposed { length proposal.old ≡ (shown self.now.workings.now).count }
-        ensures { let t = self.now in let w = shown t.workings.now in map K.coords proposal.new ≡ numerators_by K.size w.count w.roles w.shares multiple.l t.d (map K.coords t.values.now) (map K.coords t.wishes.now) t.relations.now t.rows.now (map K.coords multipliers.now) }
-    {
-        let roles = self.workings.roles();
-        let shares = self.workings.shares();
-        let l = multiple.l as i64;
-        let e = l * self.d;
-        // the shift asks for the parameter's number
-        for (s, place) in proposal.iter_mut().enumerate() {
-            let moved = self.shift(s, multipliers);
-            *place = numerator(
-                roles[s],
-                l,
-                e,
-                self.values[s],
-                self.wishes[s],
-                shares[s],
-                moved,
-            );
-        }
+// Writes the numerators over ℓ × d of all parameters.
+pub(crate) fn write_numerators<K: Kind>(
+    task: &Task<'_, K>,
+    multiple: Multiple,
+    multipliers: &[K],
+    proposal: &mut [K],
+)
+    requires long { length task.now.rows.now ≤ length multipliers.now }
+    requires limited { some_above most_multiplier K.size (length task.now.rows.now) (map K.coords multipliers.now) ≡ false }
+    requires proposed { length proposal.old ≡ (shown task.now.workings.now).count }
+    ensures { let t = task.now in let w = shown t.workings.now in map K.coords proposal.new ≡ numerators_by K.size w.count w.roles w.shares multiple.l t.d (map K.coords t.values.now) (map K.coords t.wishes.now) t.relations.now t.rows.now (map K.coords multipliers.now) }
+{
+    let roles = task.workings.roles();
+    let shares = task.workings.shares();
+    let l = multiple.l as i64;
+    let e = l * task.d;
+    // the shift asks for the parameter's number
+    for (s, place) in proposal.iter_mut().enumerate() {
+        let moved = shift(task, s, multipliers);
+        *place = numerator(
+            roles[s],
+            l,
+            e,
+            task.values[s],
+            task.wishes[s],
+            shares[s],
+            moved,
+        );
     }
 }

@@ -5,14 +5,14 @@ ghost use Rattle.rules.specs.Sheets.{unfit, unfit_values};
 ghost use Rattle.rules.specs.Pulling.{proposed};
 ghost use Rattle.sheets.specs.Shown.{numbers};
 ghost use Rattle.workings.specs.Shown.{shown};
-ghost use Rattle.pulls.specs.Rows.{chosen, Fine};
+ghost use Rattle.residuals.specs.Rows.{chosen, Fine};
 ghost use Rattle.pulls.specs.Steps.{placed, exactly};
 
-use crate::residuals::far_wish;
-use crate::rows::write_carried;
-use crate::task::Task;
+use crate::finish::finish;
+use crate::wishes::far_wish;
 use kinds::Kind;
 use records::{Refusal, Relation};
+use residuals::Task;
 use roles::counted_relations;
 use sheets::{Sheet, clear, unfit};
 use workings::Workings;
@@ -21,25 +21,22 @@ const WORKING_PLACES: usize = 24;
 
 const MOST_ROWS: usize = 12;
 
-impl<K: Kind> Task<'_, K> {
-    // The denominator of the proposal, whose numerators are then in its list. The working values hold the residuals in their
-    // first 12 places, and what the rows carry in the next 12.
-    fn solve(&self, proposal: &mut [K], working: &mut [K]) -> Result<i64, Refusal>
-        requires proposed { length proposal.old ≡ (shown self.now.workings.now).count }
-        requires working { length working.old ≡ 24 }
-        ensures { let t = self.now in let w = shown t.workings.now in placed result (map K.coords proposal.new) ≡ proposed K.size w.count w.roles w.shares (chosen w.count t.relations.now (map K.coords t.constants.now) t.rows.now) w.table t.d (map K.coords t.values.now) (map K.coords t.wishes.now) }
-    {
-        let m = self.workings.m();
-        let (left, right) = working.split_at_mut(MOST_ROWS);
-        let found = &mut left[..m];
-        let sums = &mut right[..m];
-        // the caller lends places for values alone, so the rows' numbers have a list of their own
-        let mut places = [0; MOST_ROWS];
-        let numbers = &mut places[..m];
-        self.write_residuals(found)?;
-        write_carried(self.workings, found, numbers, sums)?;
-        self.finish(numbers, sums, proposal)
-    }
+// The denominator of the proposal, whose numerators are then in its list. The working values hold the residuals in their
+// first 12 places, and what the rows carry in the next 12.
+fn solve<K: Kind>(task: &Task<'_, K>, proposal: &mut [K], working: &mut [K]) -> Result<i64, Refusal>
+    requires proposed { length proposal.old ≡ (shown task.now.workings.now).count }
+    requires working { length working.old ≡ 24 }
+    ensures { let t = task.now in let w = shown t.workings.now in placed result (map K.coords proposal.new) ≡ proposed K.size w.count w.roles w.shares (chosen w.count t.relations.now (map K.coords t.constants.now) t.rows.now) w.table t.d (map K.coords t.values.now) (map K.coords t.wishes.now) }
+{
+    let m = task.workings.m();
+    let (left, right) = working.split_at_mut(MOST_ROWS);
+    let found = &mut left[..m];
+    let sums = &mut right[..m];
+    // the caller lends places for values alone, so the rows' numbers have a list of their own
+    let mut places = [0; MOST_ROWS];
+    let numbers = &mut places[..m];
+    task.write_rows(found, numbers, sums)?;
+    finish(task, numbers, sums, proposal)
 }
 
 // A pull over lists of exactly the places that it writes.
@@ -74,7 +71,7 @@ fn pull<K: Kind>(
             workings,
             wishes,
         };
-        task.solve(proposal, working)
+        solve(&task, proposal, working)
     };
     clear(working);
     if answer.is_err() {

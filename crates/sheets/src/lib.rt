@@ -4,5 +4,5 @@
 mod record;
 
 pub use record::Sheet;
-pub use record::limits::{unfit, unfit_values};
+pub use record::limits::{bad_denominator, unfit, unfit_values};
 pub use record::opening::clear;

@@ -19,7 +19,8 @@ const MOST_COEFFICIENT: u64 = 1_000;
 
 const MOST_CONSTANT: u64 = 47_560_000;
 
-fn bad_denominator(d: i64) -> bool
+// Whether a denominator is out of range.
+pub fn bad_denominator(d: i64) -> bool
     ensures { result ≡ bad_denominator d }
 {
     d < 1 || d > MOST_DENOMINATOR

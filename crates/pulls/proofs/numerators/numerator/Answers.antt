@@ -3,7 +3,8 @@ use Rattle.std.proofs.lemmas.Int.{to_z-of_z}
 use Rattle.records.specs.declared.role.Role.{Role}
 use Rattle.whole.specs.Lists.{tab, at}
 use Rattle.rules.specs.Gripping.{is_held}
-use Rattle.pulls.specs.Steps.{plus, numerator_over}
+use Rattle.fractions.specs.Steps.{plus}
+use Rattle.pulls.specs.Steps.{numerator_over}
 use Rattle.pulls.proofs.Numbers.{single, double}
 use Rattle.pulls.proofs.numerators.numerator.Goals as goal
 

@@ -1,0 +1,10 @@
+pub mod Zeros
+pub mod Placed
+pub mod Adding
+pub mod Quotients
+pub mod Divisors
+pub mod Refusing
+pub mod Stopping
+pub mod Multiplying
+pub mod Settled
+pub mod Multiplied

@@ -1,0 +1,4 @@
+pub mod Steps
+pub mod Stopped
+pub mod Multiple
+pub mod Settling
