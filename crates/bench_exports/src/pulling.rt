@@ -1,19 +1,16 @@
 // A sheet that is opened, bound and gripped once, and then pulled to one list of wishes after the other. C lends each list by itself.
 use kinds::{Kind, Length, Point, read, write};
 use pulls::propose;
+use records::limits::{MOST_PARAMETERS, MOST_RELATIONS};
 use records::{Mark, Refusal, Relation, Role};
 use sheets::Sheet;
 use workings::Workings;
-
-const PARAMETERS: usize = 48;
-
-const RELATIONS: usize = 24;
 
 // Values, wishes and proposal by parameter, constants and working values by relation.
 const ALL_LISTS: usize = 192;
 
 const BLANK: Relation = Relation {
-    coefficients: [0; PARAMETERS],
+    coefficients: [0; MOST_PARAMETERS],
     mark: Mark::Idle,
 };
 
@@ -28,8 +25,8 @@ fn role_of(code: i64) -> Role {
     }
 }
 
-fn roles_of(codes: &[i64]) -> [Role; PARAMETERS] {
-    let mut roles = [Role::Held; PARAMETERS];
+fn roles_of(codes: &[i64]) -> [Role; MOST_PARAMETERS] {
+    let mut roles = [Role::Held; MOST_PARAMETERS];
     for (role, code) in roles.iter_mut().zip(codes) {
         *role = role_of(*code);
     }
@@ -63,7 +60,7 @@ fn bound_sheet<K: Kind>(
     constants: &mut [K],
 ) -> Result<Sheet, Refusal> {
     let mut sheet = Sheet::open(count, values)?;
-    for row in coefficients.chunks_exact(PARAMETERS) {
+    for row in coefficients.chunks_exact(MOST_PARAMETERS) {
         sheet.bind(values, relations, constants, row, K::zero())?;
     }
     Ok(sheet)
@@ -73,7 +70,7 @@ fn bound_sheet<K: Kind>(
 fn gripped(sheet: &Sheet, relations: &[Relation], codes: &[i64]) -> Result<Workings, Refusal> {
     let n = sheet.count();
     let bound = sheet.bound();
-    if n > PARAMETERS || bound > relations.len() {
+    if n > MOST_PARAMETERS || bound > relations.len() {
         return Err(Refusal::Unfit);
     }
     let roles = roles_of(codes);
@@ -95,7 +92,7 @@ fn pull_each<K: Kind>(
     answers: &mut [i64],
     out: &mut [i64],
 ) {
-    let step = PARAMETERS * K::count().min(4).max(1);
+    let step = MOST_PARAMETERS * K::count().min(4).max(1);
     let places = answers.iter_mut().zip(out.chunks_exact_mut(step));
     for (from, (answer, to)) in wishes.chunks_exact(step).zip(places) {
         load(from, wanted);
@@ -123,10 +120,10 @@ fn pull_all<K: Kind>(
     if lists.len() < ALL_LISTS {
         return Err(Refusal::Unfit);
     }
-    let (values, rest) = lists.split_at_mut(PARAMETERS);
-    let (constants, rest) = rest.split_at_mut(RELATIONS);
-    let (working, rest) = rest.split_at_mut(RELATIONS);
-    let (proposal, wanted) = rest.split_at_mut(PARAMETERS);
+    let (values, rest) = lists.split_at_mut(MOST_PARAMETERS);
+    let (constants, rest) = rest.split_at_mut(MOST_RELATIONS);
+    let (working, rest) = rest.split_at_mut(MOST_RELATIONS);
+    let (proposal, wanted) = rest.split_at_mut(MOST_PARAMETERS);
     let sheet = bound_sheet(count, coefficients, values, relations, constants)?;
     let workings = gripped(&sheet, relations, codes)?;
     pull_each(
@@ -162,7 +159,7 @@ pub extern "C" fn valetwren_pull_lengths(
         answers,
         out,
         &mut [Length { x: 0 }; ALL_LISTS],
-        &mut [BLANK; RELATIONS],
+        &mut [BLANK; MOST_RELATIONS],
     ))
 }
 
@@ -185,6 +182,6 @@ pub extern "C" fn valetwren_pull_points(
         answers,
         out,
         &mut [Point { x: 0, y: 0 }; ALL_LISTS],
-        &mut [BLANK; RELATIONS],
+        &mut [BLANK; MOST_RELATIONS],
     ))
 }

@@ -4,7 +4,7 @@ use native.Mathlib.Nat.{mul-div_cancel'}
 use Prim.Native.Nat.{◌∣◌}
 use lib.Signed.{quot_z, lt_z}
 use borrow.Author.Differences.{ints}
-use Rattle.std.proofs.lemmas.Bool.{le-ltb, or_parts}
+use Rattle.std.proofs.lemmas.Bool.{le-ltb, ltb-false, or_parts}
 use Rattle.std.proofs.lemmas.List.{length-map}
 use Rattle.std.proofs.lemmas.Int.{to_z_pos}
 use Rattle.records.specs.Outcomes.{guard}
@@ -15,7 +15,7 @@ use Rattle.whole.proofs.Lists.{tab-length, tab_ext}
 use Rattle.rules.specs.Values.{Coords, grid}
 use Rattle.rules.specs.Sheets.{bad_values, bad_denominator, unfit_values}
 use Rattle.rules.specs.Pulling.{joined}
-use Rattle.fractions.specs.Steps.{divisor_from, quotients}
+use Rattle.fractions.specs.Steps.{divisor_from}
 use Rattle.fractions.specs.Settling.{all_divided, settling}
 use Rattle.fractions.proofs.Quotients.{divided-above}
 use Rattle.fractions.proofs.Divisors.{divisor_of_all, divisor-divides, divisor-above, divisor-≤}
@@ -88,15 +88,16 @@ module _ {K : Type 0} (f : K → Coords) (size l : ℕ) (d : ℤ) (A H : ℕ) (x
   pub fitting : (0 < H) × (H ≤ 100000000000000)
   fitting = let n = natural d fine in divisor size l A H (map f xs) some few (omega (arith, a_is, n.1)) (omega (arith, a_is, n.2)) is
 
-  pub ended : l * A / H ≤ 45000 → (new : List K) → map f new ≡ all_divided size (map f xs) (to_z w64 H) → (b : Bool) → b ≡ unfit_values size (length new) (to_z w64 (l * A / H)) (map f new)
+  pub ended : lt_z (pos 45000) (to_z w64 (l * A / H)) ≡ false → (new : List K) → map f new ≡ all_divided size (map f xs) (to_z w64 H) → (b : Bool) → b ≡ unfit_values size (length new) (to_z w64 (l * A / H)) (map f new)
       → (guard b OffSheet (Ok (to_z w64 (l * A / H))), map f new) ≡ settling size (length xs) l d (map f xs)
-  ended within new made b tested =
+  ended fits new made b tested =
       let n = natural d fine in
       let low : 1 ≤ A = omega (arith, a_is, n.1) in
       let high : A ≤ 45000 = omega (arith, a_is, n.2) in
       let e = most size l A H (map f xs) some few low high is in
       let q = div-le_self (l * A) H in
       let over = to_z_pos w64 (l * A / H) (omega arith) in
+      let within = ltb-false 45000 (l * A / H) (sym (ap (lt_z (pos 45000)) over) ∙ fits) in
       let list = made ∙ ap (all_divided size (map f xs)) (to_z_pos w64 H (omega (arith, fitting.1))) in
       let long : length (map f new) ≡ length (map f xs) = ap length list ∙ tab-length (length (map f xs)) _ in
       let count : length new ≡ length (map f xs) = omega (arith, long, length-map new f) in

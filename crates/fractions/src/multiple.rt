@@ -8,11 +8,8 @@ ghost use Rattle.fractions.specs.Multiple.{taken_up, multiple, strays, multiplie
 use crate::steps::add;
 use kinds::{Kind, value_above};
 use records::Refusal;
+use records::limits::{MOST_MULTIPLIER, TABLE_LIMIT};
 use whole::common_multiple;
-
-const LIMIT: u64 = 2_147_483_647;
-
-const MOST_MULTIPLIER: u64 = 1_000_000_000_000;
 
 // A common multiple ℓ of rows' numbers, above 0 and within the limit of the table.
 #[derive(Clone, Copy)]
@@ -30,7 +27,7 @@ impl Multiple {
         if p == 0 {
             return Ok(self);
         }
-        let l = common_multiple(self.l, p, LIMIT).ok_or(Refusal::TooFine)?;
+        let l = common_multiple(self.l, p, TABLE_LIMIT).ok_or(Refusal::TooFine)?;
         Ok(Multiple { l })
     }
 
@@ -52,7 +49,7 @@ impl Multiple {
         if p == 0 {
             return Ok(g);
         }
-        if value_above(g, LIMIT) {
+        if value_above(g, TABLE_LIMIT) {
             return Err(Refusal::TooFine);
         }
         let product = add(K::zero(), (self.l / p) as i64, g);

@@ -8,9 +8,8 @@ use crate::multiple::Multiple;
 use crate::steps::{divided, divisor_with};
 use kinds::Kind;
 use records::Refusal;
+use records::limits::MOST_DENOMINATOR;
 use sheets::{bad_denominator, unfit_values};
-
-const MOST_DENOMINATOR: u64 = 45_000;
 
 // The greatest common divisor of e and all coordinates of the numerators.
 fn divisor_over<K: Kind>(e: u64, proposal: &[K]) -> u64
@@ -38,14 +37,14 @@ impl Multiple {
         }
         let e = self.l * d.unsigned_abs();
         let h = divisor_over(e, proposal);
-        let over = e / h;
+        let over = (e / h) as i64;
         if over > MOST_DENOMINATOR {
             return Err(Refusal::TooFine);
         }
         divide_all(h as i64, proposal);
-        if unfit_values(proposal.len(), over as i64, proposal) {
+        if unfit_values(proposal.len(), over, proposal) {
             return Err(Refusal::OffSheet);
         }
-        Ok(over as i64)
+        Ok(over)
     }
 }

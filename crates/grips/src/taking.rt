@@ -9,11 +9,10 @@ ghost use Rattle.grips.specs.Shown.{handing_back, shown_take, SparesRightly, Spa
 use crate::marks::{mark_all, write_spares};
 use crate::token::{Grip, Refused, Unproposed};
 use kinds::Kind;
+use records::limits::MOST_COUNTED;
 use records::{Refusal, Relation, Role};
 use sheets::{Sheet, unfit};
 use workings::Workings;
-
-const SPARE_PLACES: usize = 12;
 
 // What an accepted grip gives: the grip, its workings, and how many places of the spare list, which is the caller's, were written.
 pub struct Gripped {
@@ -35,7 +34,7 @@ fn workings_of<K: Kind>(
 {
     let n = sheet.count();
     let bound = sheet.bound();
-    if roles.len() < n || spare.len() < SPARE_PLACES || unfit(sheet, values, relations, constants) {
+    if roles.len() < n || spare.len() < MOST_COUNTED || unfit(sheet, values, relations, constants) {
         return Err(Refusal::Unfit);
     }
     Workings::make(&relations[..bound], &roles[..n])

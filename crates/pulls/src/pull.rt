@@ -11,15 +11,12 @@ ghost use Rattle.pulls.specs.Steps.{placed, exactly};
 use crate::finish::finish;
 use crate::wishes::far_wish;
 use kinds::Kind;
+use records::limits::{MOST_COUNTED, WORKING_PLACES};
 use records::{Refusal, Relation};
 use residuals::Task;
 use roles::counted_relations;
 use sheets::{Sheet, clear, unfit};
 use workings::Workings;
-
-const WORKING_PLACES: usize = 24;
-
-const MOST_ROWS: usize = 12;
 
 // The denominator of the proposal, whose numerators are then in its list. The working values hold the residuals in their
 // first 12 places, and what the rows carry in the next 12.
@@ -29,11 +26,11 @@ fn solve<K: Kind>(task: &Task<'_, K>, proposal: &mut [K], working: &mut [K]) -> 
     ensures { let t = task.now in let w = shown t.workings.now in placed result (map K.coords proposal.new) ≡ proposed K.size w.count w.roles w.shares (chosen w.count t.relations.now (map K.coords t.constants.now) t.rows.now) w.table t.d (map K.coords t.values.now) (map K.coords t.wishes.now) }
 {
     let m = task.workings.m();
-    let (left, right) = working.split_at_mut(MOST_ROWS);
+    let (left, right) = working.split_at_mut(MOST_COUNTED);
     let found = &mut left[..m];
     let sums = &mut right[..m];
     // the caller lends places for values alone, so the rows' numbers have a list of their own
-    let mut places = [0; MOST_ROWS];
+    let mut places = [0; MOST_COUNTED];
     let numbers = &mut places[..m];
     task.write_rows(found, numbers, sums)?;
     finish(task, numbers, sums, proposal)

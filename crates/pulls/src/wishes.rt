@@ -7,8 +7,7 @@ ghost use Rattle.rules.specs.Pulling.{far_wish};
 
 use kinds::{Kind, value_above};
 use records::Role;
-
-const MOST_STEPS: u64 = 47_560;
+use records::limits::MOST_STEPS;
 
 // Whether a wish is read and has a coordinate off the sheet.
 fn far<K: Kind>(role: Role, wish: K) -> bool

@@ -1,6 +1,7 @@
-// The plain records of a sheet, which definitions and code share.
+// The plain records of a sheet, and the limits on its numbers, which definitions and code share.
 #![tactic(auto)]
 
+pub mod limits;
 mod refusal;
 mod relation;
 mod role;

@@ -14,9 +14,8 @@ use crate::task::Task;
 use fractions::{divided, divisor_with};
 use kinds::{Kind, value_above};
 use records::Refusal;
+use records::limits::MOST_RESIDUAL;
 use workings::Workings;
-
-const MOST_RESIDUAL: u64 = 300_000_000;
 
 // A row's diagonal number p and what the row carries, both divided by their greatest common divisor; a spare row that carries
 // something other than zero has no placing.

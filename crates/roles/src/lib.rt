@@ -7,9 +7,8 @@ ghost use Rattle.roles.specs.Places.{places};
 ghost use Rattle.whole.specs.Tests.{any, tally, nonzero};
 ghost use Rattle.rules.specs.Gripping.{role, is_held, is_pulled, is_loose, is_weight, bad_weight, bad_roles, counts};
 
+use records::limits::MOST_LOOSE;
 use records::{Relation, Role};
-
-const MOST_LOOSE: usize = 24;
 
 fn is_held(role: Role) -> bool
     ensures { result ≡ is_held role }

@@ -4,6 +4,7 @@ ghost use Rattle.rules.specs.Values.{zeros};
 ghost use Rattle.steps.specs.Lists.{Fresh};
 
 use kinds::Kind;
+use records::limits::{MOST_COUNTED, MOST_PARAMETERS, MOST_RELATIONS, WORKING_PLACES};
 use records::{Mark, Relation};
 use std::alloc::{AllocError, Global};
 
@@ -18,14 +19,6 @@ pub struct Lists<K> {
     pub spare: Vec<usize>,
 }
 
-const PARAMETERS: usize = 48;
-
-const RELATIONS: usize = 24;
-
-const WORKING: usize = 24;
-
-const SPARES: usize = 12;
-
 // n values of zero.
 fn zeros_of<K: Kind>(heap: Global, n: usize) -> Result<Vec<K>, AllocError>
     ensures { IfOk result (λ v. map K.coords v.items ≡ zeros n K.size) }
@@ -39,16 +32,16 @@ impl<K: Kind> Lists<K> {
         ensures { IfOk result (λ l. Fresh K.size K.coords l) }
     {
         let blank = Relation {
-            coefficients: [0; PARAMETERS],
+            coefficients: [0; MOST_PARAMETERS],
             mark: Mark::Idle,
         };
         Ok(Lists {
-            values: zeros_of(heap, PARAMETERS)?,
-            relations: vec![in heap; blank; RELATIONS]?,
-            constants: zeros_of(heap, RELATIONS)?,
-            proposal: zeros_of(heap, PARAMETERS)?,
-            working: zeros_of(heap, WORKING)?,
-            spare: vec![in heap; 0; SPARES]?,
+            values: zeros_of(heap, MOST_PARAMETERS)?,
+            relations: vec![in heap; blank; MOST_RELATIONS]?,
+            constants: zeros_of(heap, MOST_RELATIONS)?,
+            proposal: zeros_of(heap, MOST_PARAMETERS)?,
+            working: zeros_of(heap, WORKING_PLACES)?,
+            spare: vec![in heap; 0; MOST_COUNTED]?,
         })
     }
 }

@@ -3,9 +3,8 @@ ghost use Rattle.linear.specs.Elimination.{table_limit};
 ghost use Rattle.table.specs.Limits.{Within};
 ghost use Rattle.table.specs.Rows.{changed, mixed, row_beyond};
 
+use records::limits::TABLE_LIMIT;
 use whole::common_divisor_all;
-
-const LIMIT: u64 = 2_147_483_647;
 
 // A row of a table: m numbers, then m more; the places after them are not used.
 #[derive(Clone, Copy)]
@@ -76,6 +75,8 @@ impl Row {
         requires { w ≤ 24 }
         ensures { result ≡ row_beyond w self.now.cells }
     {
-        self.cells[..w].iter().any(|x| x.unsigned_abs() > LIMIT)
+        self.cells[..w]
+            .iter()
+            .any(|x| x.unsigned_abs() > TABLE_LIMIT)
     }
 }

@@ -8,13 +8,10 @@ ghost use Rattle.workings.specs.Chosen.{countable};
 ghost use Rattle.workings.specs.Rows.{coefficient_rows};
 
 use arrayvec::ArrayVec;
+use records::limits::{MOST_COEFFICIENT, MOST_COUNTED};
 use records::{Refusal, Relation, Role};
 use roles::relation_counts;
 use whole::some_above;
-
-const MOST_COEFFICIENT: u64 = 1000;
-
-const MOST_COUNTED: usize = 12;
 
 // Whether a relation has a coefficient out of range.
 pub(crate) fn some_out_of_range(relations: &[Relation], n: usize) -> bool

@@ -7,11 +7,10 @@ ghost use Rattle.workings.specs.Shown.{shown};
 use crate::choosing::{choose, some_out_of_range};
 use crate::sharing::{kept, shares_of};
 use crate::workings::Workings;
+use records::limits::MOST_PARAMETERS;
 use records::{Refusal, Relation, Role};
 use roles::bad_roles;
 use table::Table;
-
-const MOST_PARAMETERS: usize = 48;
 
 impl Workings {
     // The workings of a grip on these bound relations, with one role to a parameter.

@@ -7,8 +7,9 @@ ghost use Rattle.sheets.specs.Gap.{gap_at};
 ghost use Rattle.sheets.specs.Shown.{numbers};
 
 use super::Sheet;
-use super::limits::{MOST_PARAMETERS, MOST_RELATIONS, bad_coefficients, bad_constant, unfit};
+use super::limits::{bad_coefficients, bad_constant, unfit};
 use kinds::{Kind, combine, value_above};
+use records::limits::{MOST_PARAMETERS, MOST_RELATIONS};
 use records::{Mark, Refusal, Relation};
 
 // The sum of coefficient × value over the first n parameters, less d × q.

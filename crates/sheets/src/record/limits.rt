@@ -5,19 +5,10 @@ ghost use Rattle.sheets.specs.Shown.{numbers};
 use super::Sheet;
 use kinds::{Kind, value_above, values_above};
 use records::Relation;
+use records::limits::{
+    MOST_COEFFICIENT, MOST_CONSTANT, MOST_DENOMINATOR, MOST_RELATIONS, MOST_STEPS,
+};
 use whole::some_above;
-
-pub(crate) const MOST_PARAMETERS: usize = 48;
-
-pub(crate) const MOST_RELATIONS: usize = 24;
-
-const MOST_STEPS: u64 = 47_560;
-
-const MOST_DENOMINATOR: i64 = 45_000;
-
-const MOST_COEFFICIENT: u64 = 1_000;
-
-const MOST_CONSTANT: u64 = 47_560_000;
 
 // Whether a denominator is out of range.
 pub fn bad_denominator(d: i64) -> bool

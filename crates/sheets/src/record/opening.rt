@@ -5,9 +5,9 @@ ghost use Rattle.rules.specs.Calls.{opening};
 ghost use Rattle.sheets.specs.Shown.{numbers};
 
 use super::Sheet;
-use super::limits::MOST_PARAMETERS;
 use kinds::Kind;
 use records::Refusal;
+use records::limits::MOST_PARAMETERS;
 
 // Sets all values to zero.
 pub fn clear<K: Kind>(values: &mut [K])

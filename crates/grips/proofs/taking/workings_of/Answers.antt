@@ -15,4 +15,4 @@ returns g c =
     c.make.ensures.value
     ∙ ap₂ (λ (b n : ℕ). gripped (take b c.args.relations.now) (take n c.args.roles.now)) c.bound-bound.ensures c.count-n.ensures
     ∙ answered size (numbers s) (map f c.args.values.now) c.args.relations.now (map f c.args.constants.now) c.args.roles.now c.args.spare.now
-    s.few (omega (arith, t.relations_long, s.room)) (omega (arith, c.if-roles-n.false, c.count-n.ensures)) c.if-spare-lt-SPARE_PLACES.false fine
+    s.few (omega (arith, t.relations_long, s.room)) (omega (arith, c.if-roles-n.false, c.count-n.ensures)) c.if-spare-lt-MOST_COUNTED.false fine
