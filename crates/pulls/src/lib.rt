@@ -1,4 +1,4 @@
-// The arithmetic of a pull: from wishes to a proposal, over any kind of value.
+// A pull: its tests, the place of each parameter, and what it leaves in the lists, over any kind of value.
 #![tactic(auto)]
 
 mod finish;
