@@ -29,6 +29,7 @@ use Rattle.rules.specs.Calls.{grip_on, grip_answer, marks_after}
 use Rattle.rules.proofs.Bonds.{nth, marked-at}
 use Rattle.rules.proofs.Counting.{counted-append}
 use Rattle.rules.proofs.Roles.{good-weights, share-≥0, weight_is}
+use Rattle.law.specs.Standing.{GrippedWell}
 use Rattle.law.specs.Facts.{table_after, Pivots, Diagonal, WorkedOut, AcceptedGrip, Combination, SpareExactly}
 
 shares-≥0 : (n : ℕ) (roles : List Role) → bad_roles n roles ≡ false → (s : ℕ) → s < n → pos 0 ≤ℤ share (role roles s)
@@ -72,6 +73,10 @@ module _ (n : ℕ) (roles : List Role) (all : List Bond) (w : Workings) where
       let a9 = passed (ltb most_counted (length those)) Crowded _ w a8.1 in
       let g = went_on (table n roles those) _ w a9.1 in
       made g.0 a8.0 a9.0 g.1 g.2
+
+  -- an elimination that is finished
+  pub gripped-well : WorkedOut n roles all w → GrippedWell n all roles w
+  gripped-well W = record { roles_are = W.roles_are; weights = good-weights n roles W.good; shares_are = W.shares_are; means = W.means }
 
 pub accepted-grip : AcceptedGrip
 accepted-grip size s vs rs qs roles list w e =

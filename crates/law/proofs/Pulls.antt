@@ -22,7 +22,7 @@ use Rattle.law.proofs.Solved.{Accepted, refused-13, none-13, accepted-answer}
 pub kept-nums : (size n : ℕ) (t : Told) (u : Use) → Standing size n t u → (s : ℕ) → s < n → (c : ℕ) → c < size → coord u.values s c ≡ coord t.kept.nums s c
 kept-nums size n t u S s l c b = ap (λ (x : Coords). get_or x c (pos 0)) (sym (get_or-take n u.values s [] l)) ∙ ap (λ (xs : List Coords). coord xs s c) S.values_are
 
-same_refusal : {A B : Type 0} (j k : Refusal) → ◌≡◌ {A = Result A Refusal} (Err j) (Err k) → ◌≡◌ {A = Result B Refusal} (Err j) (Err k)
+pub same_refusal : {A B : Type 0} (j k : Refusal) → ◌≡◌ {A = Result A Refusal} (Err j) (Err k) → ◌≡◌ {A = Result B Refusal} (Err j) (Err k)
 same_refusal {A} {B} j k e = let q : j ≡ k = cc in ap refusal q
   where
     refusal : Refusal → Result B Refusal

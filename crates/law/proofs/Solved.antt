@@ -31,7 +31,7 @@ use Rattle.law.proofs.Multipliers as Multipliers
 use Rattle.law.proofs.Multipliers.{hs, l, xs, l_above, loud}
 use Rattle.law.proofs.Offers.{V, W, base, lack, carried_is, numerators_are, weighted, shares-≥0, meets_there, agrees_there, meets_here, nearer_here}
 
-grid-shaped : (size n : ℕ) (e : ℤ) (f : ℕ → ℕ → ℤ) → pos 0 <ℤ e → Shaped size n (record { over = e; nums = grid n size f })
+pub grid-shaped : (size n : ℕ) (e : ℤ) (f : ℕ → ℕ → ℤ) → pos 0 <ℤ e → Shaped size n (record { over = e; nums = grid n size f })
 grid-shaped size n e f h = record {
   above = h;
   values = tab-length n (λ s. tab size (f s));

@@ -10,7 +10,7 @@ use Rattle.records.specs.declared.role.Role.{Role}
 use Rattle.whole.specs.Lists.{tab}
 use Rattle.whole.proofs.Lists.{tab-length, get_or-tab, tab_ext, tab_of}
 use Rattle.linear.specs.Elimination.{Grid}
-use Rattle.rules.specs.Values.{Coords, written}
+use Rattle.rules.specs.Values.{Coords, zeros, written}
 use Rattle.rules.specs.Sheets.{Sheet, Bond, bond, no_bond, bonds, relation_at}
 use Rattle.rules.specs.Gripping.{mark_of, with_mark, marked}
 use Rattle.rules.specs.Calls.{recorded, closed}
@@ -75,6 +75,9 @@ module _ {X : Type 0} where
       where
         sum : length (front ++ later) ≡ i + (n - (i + 1)) → length (drop (i + (n - (i + 1))) xs) ≡ length xs - (i + (n - (i + 1))) → length (front ++ later) + length (drop (i + (n - (i + 1))) xs) ≡ length xs
         sum e f = omega arith
+
+pub zeros-length : (n size : ℕ) → length (zeros n size) ≡ n
+zeros-length n size = tab-length n (λ s. tab size (λ c. pos 0))
 
 -- ---- the bound relations
 abbrev pub none : Relation
