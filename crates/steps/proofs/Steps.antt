@@ -51,21 +51,9 @@ module _ (size : ℕ) (s : rules.Sheet) (vs : List Coords) (rs : List Relation) 
   pub by_length : (spare : List ℕ) → grip_answer size s vs rs qs roles spare ≡ grip_answer size s vs rs qs roles (replicate (length spare) 0)
   by_length spare = ap by-places (sym (length-replicate (length spare) 0))
 
--- the parts of what was handed back
+-- what was handed back
 abbrev pub Handed : Type 0 → Type 0
 Handed A = Result (rules.Sheet × A) (rules.Sheet × Refusal)
-
-abbrev sheet_in : {A : Type 0} → Handed A → rules.Sheet
-sheet_in (Ok p) = p.0
-sheet_in (Err p) = p.0
-
-abbrev given_in : {A : Type 0} → A → Handed A → A
-given_in a (Ok p) = p.1
-given_in a (Err p) = a
-
-abbrev refusal_in : {A : Type 0} → Refusal → Handed A → Refusal
-refusal_in k (Ok p) = k
-refusal_in k (Err p) = p.1
 
 abbrev pub with_sheet : {A : Type 0} → rules.Sheet → A → rules.Sheet × A
 with_sheet s a = (s, a)
@@ -73,12 +61,12 @@ with_sheet s a = (s, a)
 module _ {A : Type 0} (s t : rules.Sheet) where
   -- an answer from what was handed back with the sheet
   pub accepted : (a : A) (r : Result A Refusal) → ◌≡◌ {A = Handed A} (Ok (t, a)) (handing_back s (image (with_sheet s) r)) → (t ≡ s) × (r ≡ Ok a)
-  accepted a (Ok x) e = (ap sheet_in e, sym (ap (λ (h : Handed A). Ok (given_in a h)) e))
+  accepted a (Ok x) e = let p : (t, a) ≡ with_sheet s x = cc in (ap (λ (h : rules.Sheet × A). h.0) p, sym (ap (λ (h : rules.Sheet × A). Ok h.1) p))
   accepted a (Err k) e = let z : ◌≡◌ {A = ℕ} 0 1 = cc in absurd (omega arith)
 
   pub refused : (k : Refusal) (r : Result A Refusal) → ◌≡◌ {A = Handed A} (Err (t, k)) (handing_back s (image (with_sheet s) r)) → (t ≡ s) × (r ≡ Err k)
   refused k (Ok x) e = let z : ◌≡◌ {A = ℕ} 0 1 = cc in absurd (omega arith)
-  refused k (Err x) e = (ap sheet_in e, sym (ap (λ (h : Handed A). Err (refusal_in k h)) e))
+  refused k (Err x) e = let p : (t, k) ≡ (s, x) = cc in (ap (λ (h : rules.Sheet × Refusal). h.0) p, sym (ap (λ (h : rules.Sheet × Refusal). Err h.1) p))
 
 -- ---- a desk
 -- a desk's values lie in its list, whatever its state
