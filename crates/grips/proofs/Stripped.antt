@@ -11,6 +11,7 @@ use Rattle.linear.specs.Elimination.{Grid}
 use Rattle.rules.specs.Sheets.{Sheet, Bond, bond, bonds, no_bond, relation_at}
 use Rattle.rules.specs.Values.{written}
 use Rattle.rules.specs.Gripping.{counts, is_needed, mark_of, with_mark, marked}
+use Rattle.rules.proofs.Bonds.{none}
 use Rattle.workings.specs.Chosen.{bare}
 
 -- a relation without its constant
@@ -35,6 +36,6 @@ take-tab {X = X} xs z k h =
 
 pub bare_strip : (s : Sheet) (rs : List Relation) (qs : List (List ℤ)) → s.bound ≤ length rs → bare s.count (take s.bound rs) ≡ map strip (bonds s rs qs)
 bare_strip s rs qs h =
-    ap (bare s.count) (take-tab rs (record { coefficients = []; mark = Idle }) s.bound h)
+    ap (bare s.count) (take-tab rs none s.bound h)
     ∙ map-tab s.bound (relation_at rs) (λ r. bond s.count r.coefficients [])
     ∙ sym (map-tab s.bound (λ i. bond s.count (relation_at rs i).coefficients (get_or qs i [])) strip)

@@ -74,7 +74,7 @@ module _ (n : ℕ) (roles : List Role) (all : List Bond) (w : Workings) where
       let g = went_on (table n roles those) _ w a9.1 in
       made g.0 a8.0 a9.0 g.1 g.2
 
-  -- an elimination that is finished
+  -- their table means what a finished elimination means
   pub gripped-well : WorkedOut n roles all w → GrippedWell n all roles w
   gripped-well W = record { roles_are = W.roles_are; weights = good-weights n roles W.good; shares_are = W.shares_are; means = W.means }
 
@@ -89,7 +89,7 @@ module _ (n : ℕ) (roles : List Role) where
   split_at a r b e = counted-append n roles a (r ∷ b) ∙ (λ i. counted n roles a ++ cond (e i) (r ∷ counted n roles b) (counted n roles b))
 
   -- the row of relation i is how many of the earlier ones count
-  row_is : (bs : List Bond) (i : ℕ) → i ≤ length bs → row_of n roles bs i ≡ length (counted n roles (take i bs))
+  pub row_is : (bs : List Bond) (i : ℕ) → i ≤ length bs → row_of n roles bs i ≡ length (counted n roles (take i bs))
   row_is bs zero l = refl
   row_is bs (suc i) l =
       by (counts n roles (get_or bs i no_bond).coefs) refl (row_is bs i (omega arith))

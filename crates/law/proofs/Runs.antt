@@ -1,5 +1,5 @@
 -- The law for runs, by induction over the history.
-use Rattle.std.proofs.Common.{◌≡◌, ℕ, List, [], ◌∷◌, ◌++◌, take, pos, sym, refl, ap, ◌∙◌, subst, not-suc-le-zero, arith}
+use Rattle.std.proofs.Common.{◌≡◌, ℕ, List, [], ◌∷◌, take, pos, sym, refl, ap, ◌∙◌, subst, not-suc-le-zero, arith}
 use borrow.Author.Differences.{ints}
 use Rattle.std.proofs.lemmas.List.{take_all}
 use Rattle.rules.specs.Values.{Coords, zeros}
@@ -8,9 +8,9 @@ use Rattle.rules.specs.Calls.{opening}
 use Rattle.rules.specs.Runs.{Use, step, opened}
 use Rattle.rules.proofs.Accepted.{on_opened}
 use Rattle.rules.proofs.Bonds.{take-written, zeros-length}
-use Rattle.law.specs.Histories.{Entry, Told, at_opening, tell, told_from}
+use Rattle.law.specs.Histories.{Entry, Told, at_opening, tell}
 use Rattle.law.specs.Placings.{Shaped, Same, AllHold}
-use Rattle.law.specs.Law.{shown, KeptAndHeld, LawfulEntry, LawfulFrom, Made, LawForRuns}
+use Rattle.law.specs.Law.{shown, KeptAndHeld, LawfulFrom, Made, LawForRuns}
 use Rattle.law.specs.Standing.{Standing, StandsOpened, StandsOn}
 use Rattle.law.proofs.Solved.{grid-shaped}
 use Rattle.law.proofs.Steps.{next}
@@ -56,12 +56,3 @@ lawful_from size n t u S (e ∷ h) m =
 pub law : LawForRuns
 law size n values s e rs qs proposal working places h m =
     lawful_from size n (at_opening size n) (opened s (opening size n values).1 rs qs proposal working places) (stands_opened size n values s e rs qs proposal working places) h m
-
--- ---- one entry more at the end
-pub told_more : (n : ℕ) (t : Told) (h : List Entry) (e : Entry) → told_from n t (h ++ (e ∷ [])) ≡ tell n (told_from n t h) e.call e.reply
-told_more n t [] e = refl
-told_more n t (x ∷ h) e = told_more n (tell n t x.call x.reply) h e
-
-pub lawful_more : (size n : ℕ) (t : Told) (h : List Entry) (e : Entry) → LawfulFrom size n t h → LawfulEntry size n (told_from n t h) e → LawfulFrom size n t (h ++ (e ∷ []))
-lawful_more size n t [] e l new = (new, tt)
-lawful_more size n t (x ∷ h) e l new = (l.0, lawful_more size n (tell n t x.call x.reply) h e l.1 new)
