@@ -14,7 +14,8 @@ use Rattle.law.proofs.Facts.{row_is}
 use Rattle.workings.specs.Chosen.{bare}
 use Rattle.grips.specs.Spares.{spare_marks}
 use Rattle.grips.proofs.Answering.{Accepted}
-use Rattle.grips.proofs.Stripped.{bare_strip, marked_strip}
+use Rattle.grips.proofs.Stripped.{marked_strip}
+use Rattle.workings.proofs.Bonds.{bare_strip}
 use Rattle.grips.proofs.Listing.{spare_marks-front, spares-marked, spares-few}
 use Rattle.grips.proofs.Marking.{marked_front}
 
