@@ -1,5 +1,5 @@
 -- Where the lists are long enough no call gives 1: they fit at the opening, and each call keeps them so.
-use Rattle.std.proofs.Common.{◌≡◌, ℕ, zero, suc, ◌+◌, ◌-◌, ◌*◌, ◌<◌, ◌≤◌, Bool, true, false, not, ◌||◌, eqb, ltb, leb, ◌≢◌, List, [], ◌∷◌, length, get_or, take, set, replicate, ℤ, pos, ◌*ℤ◌, nat_abs, ◌<ℤ◌, Ok, Err, Result, sym, refl, ap, ◌∙◌, subst, ap₂, ⊎_elim, not-suc-le-zero, arith}
+use Rattle.std.proofs.Common.{◌≡◌, ℕ, zero, suc, ◌+◌, ◌-◌, ◌*◌, ◌<◌, ◌≤◌, Bool, false, not, ◌||◌, eqb, ltb, leb, ◌≢◌, List, [], ◌∷◌, length, get_or, take, set, replicate, ℤ, pos, nat_abs, ◌<ℤ◌, Ok, Err, Result, sym, refl, ap, ◌∙◌, subst, ap₂, ⊎_elim, not-suc-le-zero, arith}
 use lib.Signed.{lt_z}
 use borrow.Author.Differences.{ints}
 use Rattle.std.proofs.lemmas.List.{length-set, length-replicate, get_or-set_same, get_or-set_other}
@@ -9,17 +9,15 @@ use Rattle.whole.specs.Tests.{any, above, nonzero}
 use Rattle.whole.proofs.Lists.{tab-length}
 use Rattle.whole.proofs.Tests.{any_false, none_any, any_ext}
 use Rattle.linear.specs.Elimination.{Grid, step, beyond, within_limit, eliminated, start}
-use Rattle.records.specs.Numbers.{number_of}
-use Rattle.records.specs.Outcomes.{guard, onward}
 use Rattle.records.specs.declared.refusal.Refusal.{Refusal}
-use Rattle.records.specs.declared.refusal.Refusal.TheVariants.{Unfit, Full, Coefficients, Constant, Untrue, NoRelation, Roles, Crowded, TableTooLarge, WishTooFar, GapTooLarge, Impossible, TooFine, OffSheet, NotOpen}
+use Rattle.records.specs.declared.refusal.Refusal.TheVariants.{Unfit, Full, Coefficients, Constant, Untrue, NoRelation, Roles, Crowded, TableTooLarge, WishTooFar, GapTooLarge, Impossible, NotOpen}
 use Rattle.records.specs.declared.relation.Relation.{Relation}
 use Rattle.records.specs.declared.role.Role.{Role}
-use Rattle.rules.specs.Limits.{most_parameters, most_relations, most_counted, most_residual, most_denominator, working_places}
+use Rattle.rules.specs.Limits.{most_parameters, most_relations, most_counted, most_residual, working_places}
 use Rattle.rules.specs.Values.{Coords, zeros, written}
 use Rattle.rules.specs.Sheets.{Sheet, Bond, bond, bonds, relation_at, Workings, bad_denominator, bad_values, bad_coefs, bad_constant, bad_relation, unfit_values, unfit_relations, unfit}
-use Rattle.rules.specs.Gripping.{role, counted, coef, share, shares, bad_roles, table, marked, with_mark, mark_of}
-use Rattle.rules.specs.Pulling.{Placing, far_wish, residuals, carried, some_above, contradicts, divisors, lowered, lowered_sums, common, multipliers, numerators, lowest, too_fine, settled, solved}
+use Rattle.rules.specs.Gripping.{role, counted, coef, share, bad_roles, table, marked, with_mark, mark_of}
+use Rattle.rules.specs.Pulling.{Placing, far_wish, residuals, carried, some_above, contradicts}
 use Rattle.rules.specs.Calls as Calls
 use Rattle.rules.specs.Calls.{opening, untrue, recorded, closed, bind_answer, bind_by, unbind_answer, unbind_by, grip_answer, unfit_pull}
 use Rattle.rules.specs.Runs.{Phase, free, gripped, proposing, Use, Call, bind, unbind, grip, pull, keep, drop_grip, nothing, spares, placing, Reply, Answers, rebound, held_by, pulled_to, freed, in_turn, opened}
@@ -33,29 +31,12 @@ use Rattle.law.specs.Standing.{GrippedWell, PhaseStands, Standing}
 use Rattle.law.specs.Plenty.{LongLists, LongCall, LongCalls, NeverUnfit, FitsAlways}
 use Rattle.law.proofs.Divided.{coord-grid}
 use Rattle.law.proofs.Facts.{accepted-grip}
-use Rattle.law.proofs.Pulls.{same_refusal, answer, is_accepted, outcome, pulled_is}
+use Rattle.law.proofs.Pulls.{answer, is_accepted, outcome, pulled_is}
+use Rattle.law.proofs.Refusals.{fine, guarded, open_guard, same_refusal, onwards}
+use Rattle.law.proofs.Solved.{solved_refusals}
 use Rattle.law.proofs.Runs.{stands_opened, stands_on}
 
 -- ---- results that are not refused with 1
-other : (e : Refusal) → number_of e ≢ 1 → e ≢ Unfit
-other e h q = h (ap number_of q)
-
-module _ {A : Type 0} where
-  guarded : (b : Bool) (e : Refusal) (r : Result A Refusal) → number_of e ≢ 1 → r ≢ Err Unfit → guard b e r ≢ Err Unfit
-  guarded true e r h d q = let z : e ≡ Unfit = cc in other e h z
-  guarded false e r h d q = d q
-
-  fine : (a : A) → ◌≢◌ {A = Result A Refusal} (Ok a) (Err Unfit)
-  fine a q = let z : ◌≡◌ {A = ℕ} 0 1 = cc in omega arith
-
-  open_guard : (b : Bool) (e : Refusal) (r : Result A Refusal) → b ≡ false → guard b e r ≡ r
-  open_guard true e r h = absurd (mathlib.Core.Bool.true≢false h)
-  open_guard false e r h = refl
-
-onwards : {A B : Type 0} (r : Result A Refusal) (f : A → Result B Refusal) → r ≢ Err Unfit → ((a : A) → f a ≢ Err Unfit) → onward r f ≢ Err Unfit
-onwards (Ok a) f d h q = h a q
-onwards (Err e) f d h q = d (same_refusal e Unfit q)
-
 eliminates : (m k : ℕ) (t : Grid) → eliminated m k t ≢ Err Unfit
 eliminates m zero t = guarded (beyond m t) TableTooLarge (Ok t) (λ q. omega arith) (fine t)
 eliminates m (suc k) t = onwards (eliminated m k t) (λ x. within_limit m (step m k x)) (eliminates m k t)
@@ -110,11 +91,15 @@ module _ (size n : ℕ) (t : Told) (u : Use) (S : Standing size n t u) (F : Fitt
   abbrev Fine : Runs.Outcome → Type 0
   Fine o = Fitting size n o.then × (o.reply ≢ Err Unfit)
 
-  stays : (e : Refusal) → number_of e ≢ 1 → Fine (Runs.stays u e)
-  stays e h = (F, λ q. let z : e ≡ Unfit = cc in other e h z)
+  -- a call that is not open
+  closed-call : Fine (Runs.stays u NotOpen)
+  closed-call = (F, λ q. let z : ◌≡◌ {A = ℕ} 0 1 = cc in omega arith)
 
   freely : Fitting size n (Runs.Outcome.then (Runs.drops u))
   freely = record { lists = record { relations = F.lists.relations; constants = F.lists.constants; proposal = F.lists.proposal; working = F.lists.working; spare_list = F.lists.spare_list }; fits = F.fits; phase-fits = tt }
+
+  abbrev judged : Relation → Coords → Bool
+  judged r x = bad_relation size s.count r x
 
   -- ---- binding
   bind_fine : (cs : List ℤ) (q : Coords) → n ≤ length cs → (a : Result (Unit {0}) Refusal) → bind_answer size s u.values rs qs cs q ≡ a → Fine (rebound u (bind_by a s rs qs cs q))
@@ -150,9 +135,6 @@ module _ (size n : ℕ) (t : Told) (u : Use) (S : Standing size n t u) (F : Fitt
         fine nothing,
       )
     where
-      judged : Relation → Coords → Bool
-      judged r x = bad_relation size s.count r x
-
       older : (i : ℕ) → i < s.bound → judged (relation_at (set rs s.bound (recorded s.count cs)) i) (get_or (set qs s.bound q) i []) ≡ false
       older i l =
           let o : i ≢ s.bound = omega arith in
@@ -193,9 +175,6 @@ module _ (size n : ℕ) (t : Told) (u : Use) (S : Standing size n t u) (F : Fitt
         },
         fine nothing,
       )
-    where
-      judged : Relation → Coords → Bool
-      judged r x = bad_relation size s.count r x
 
   -- ---- gripping
   abbrev slots : List ℕ
@@ -257,18 +236,6 @@ module _ (size n : ℕ) (t : Told) (u : Use) (S : Standing size n t u) (F : Fitt
         (or_from (ltb (length wishes) s.count) _ (le-ltb _ _ (omega arith)) (le-ltb _ _ (omega (arith, F.lists.proposal)))) (le-ltb _ _ F.lists.working)) F.fits)
         (not_from_true _ (eq-eqb _ _ W.0))) (not_from_true _ (eq-eqb _ _ W.1))
 
-    -- no refusal with 1 in what is worked out
-    never_solved : (gs : List Coords) → solved size n t.roles (shares n t.roles) (counted n t.roles t.bound) w.table s.d u.values wishes gs ≢ Err Unfit
-    never_solved gs =
-        let m = length (counted n t.roles t.bound) in
-        let hs = divisors m w.table gs in
-        let ps = lowered m w.table hs in
-        let l = common m w.table ps in
-        let xs = multipliers size m w.table l ps (lowered_sums size m gs hs) in
-        let p = lowest size n (pos l *ℤ s.d) (numerators size n t.roles (shares n t.roles) (counted n t.roles t.bound) l s.d u.values wishes xs) in
-        guarded (too_fine size m w.table l (lowered_sums size m gs hs) xs) TooFine (settled size n p) (λ y. omega arith)
-        (guarded (lt_z (pos most_denominator) p.over) TooFine _ (λ y. omega arith) (guarded (bad_values size n p.over p.nums) OffSheet (Ok p) (λ y. omega arith) (fine p)))
-
     never : answer size n t u S w G wishes ≢ Err Unfit
     never =
         let m = length (counted n t.roles t.bound) in
@@ -276,7 +243,8 @@ module _ (size n : ℕ) (t : Told) (u : Use) (S : Standing size n t u) (F : Fitt
         let gs = carried size m w.table cs in
         guarded (far_wish size n t.roles wishes) WishTooFar _ (λ y. omega arith)
         (guarded (some_above most_residual size m cs) GapTooLarge _ (λ y. omega arith)
-        (guarded (contradicts size m w.table gs) Impossible _ (λ y. omega arith) (never_solved gs)))
+        (guarded (contradicts size m w.table gs) Impossible _ (λ y. omega arith)
+        (solved_refusals size n t.roles (counted n t.roles t.bound) w.table s.d u.values wishes gs Unfit (λ y. omega arith) (λ y. omega arith))))
 
     blank : working_places ≤ length (written working_places (zeros working_places size) u.working)
     blank = let z = zeros-length working_places size in subst (λ (k : ℕ). working_places ≤ k) (sym (length-written working_places (zeros working_places size) u.working (omega arith) F.lists.working)) F.lists.working
@@ -350,18 +318,18 @@ module _ (size n : ℕ) (t : Told) (u : Use) (S : Standing size n t u) (F : Fitt
   next_fine free P Q (bind cs q) l = bind_fine cs q l (bind_answer size s u.values rs qs cs q) refl
   next_fine free P Q (unbind i) l = unbind_fine i (unbind_answer size s u.values rs qs i) refl
   next_fine free P Q (grip roles) l = grip_fine roles l (grip_answer size s u.values rs qs roles slots) refl
-  next_fine free P Q (pull wishes) l = stays NotOpen (λ y. omega arith)
-  next_fine free P Q keep l = stays NotOpen (λ y. omega arith)
-  next_fine free P Q drop_grip l = stays NotOpen (λ y. omega arith)
-  next_fine (gripped w) P Q (bind cs q) l = stays NotOpen (λ y. omega arith)
-  next_fine (gripped w) P Q (unbind i) l = stays NotOpen (λ y. omega arith)
-  next_fine (gripped w) P Q (grip roles) l = stays NotOpen (λ y. omega arith)
+  next_fine free P Q (pull wishes) l = closed-call
+  next_fine free P Q keep l = closed-call
+  next_fine free P Q drop_grip l = closed-call
+  next_fine (gripped w) P Q (bind cs q) l = closed-call
+  next_fine (gripped w) P Q (unbind i) l = closed-call
+  next_fine (gripped w) P Q (grip roles) l = closed-call
   next_fine (gripped w) P Q (pull wishes) l = pull_fine w P Q wishes l
-  next_fine (gripped w) P Q keep l = stays NotOpen (λ y. omega arith)
+  next_fine (gripped w) P Q keep l = closed-call
   next_fine (gripped w) P Q drop_grip l = (freely, fine nothing)
-  next_fine (proposing w e) P Q (bind cs q) l = stays NotOpen (λ y. omega arith)
-  next_fine (proposing w e) P Q (unbind i) l = stays NotOpen (λ y. omega arith)
-  next_fine (proposing w e) P Q (grip roles) l = stays NotOpen (λ y. omega arith)
+  next_fine (proposing w e) P Q (bind cs q) l = closed-call
+  next_fine (proposing w e) P Q (unbind i) l = closed-call
+  next_fine (proposing w e) P Q (grip roles) l = closed-call
   next_fine (proposing w e) P Q (pull wishes) l = pull_fine w P.0 Q.0 wishes l
   next_fine (proposing w e) P Q keep l = keep_fine e Q.1
   next_fine (proposing w e) P Q drop_grip l = (freely, fine nothing)

@@ -1,13 +1,12 @@
 -- The law for runs, by induction over the history.
 use Rattle.std.proofs.Common.{◌≡◌, ℕ, List, [], ◌∷◌, take, pos, sym, refl, ap, ◌∙◌, subst, not-suc-le-zero, arith}
 use borrow.Author.Differences.{ints}
-use Rattle.std.proofs.lemmas.List.{take_all}
 use Rattle.rules.specs.Values.{Coords, zeros}
 use Rattle.rules.specs.Pulling.{Placing}
 use Rattle.rules.specs.Calls.{opening}
 use Rattle.rules.specs.Runs.{Use, step, opened}
 use Rattle.rules.proofs.Accepted.{on_opened}
-use Rattle.rules.proofs.Bonds.{take-written, zeros-length}
+use Rattle.rules.proofs.Bonds.{take-written_all, zeros-length}
 use Rattle.law.specs.Histories.{Entry, Told, at_opening, tell}
 use Rattle.law.specs.Placings.{Shaped, Same, AllHold}
 use Rattle.law.specs.Law.{shown, KeptAndHeld, LawfulFrom, Made, LawForRuns}
@@ -23,7 +22,7 @@ stands_opened size n values s e rs qs proposal working places =
       few = omega arith;
       bound_is = refl;
       over_is = refl;
-      values_are = let z = zeros-length n size in take-written n (zeros n size) values (omega arith) ∙ take_all n (zeros n size) (omega arith);
+      values_are = take-written_all n (zeros n size) values (zeros-length n size);
       shaped = grid-shaped size n (pos 1) (λ p c. pos 0) (omega (arith, ints));
       holds = λ i l. absurd (not-suc-le-zero l);
       phase_is = tt;

@@ -2,7 +2,7 @@
 use Rattle.std.proofs.Common.{◌≡◌, ℕ, zero, suc, ◌+◌, ◌-◌, ◌<◌, ◌≤◌, ◌≢◌, List, [], ◌∷◌, ◌++◌, length, get_or, take, drop, set, replicate, ℤ, pos, sym, refl, ap, ◌∙◌, ap₂, ⊎_elim, add-one, arith}
 use Rattle.std.specs.List.{remove}
 use Rattle.std.proofs.lemmas.List.Edits.{length-remove, get_or-remove_below, get_or-remove_above}
-use Rattle.std.proofs.lemmas.List.{get_or_append_left, get_or-append_right, get_or-take, get_or-drop, get_or-set_same, get_or-set_other, length-append, length-take-le, length-drop, take_at}
+use Rattle.std.proofs.lemmas.List.{get_or_append_left, get_or-append_right, get_or-take, get_or-drop, get_or-set_same, get_or-set_other, length-append, length-take-le, length-drop, take_at, take_all}
 use Rattle.std.proofs.lemmas.Bool.{cases_lt}
 use Rattle.records.specs.declared.relation.Mark.TheVariants.{Idle}
 use Rattle.records.specs.declared.relation.Relation.{Relation}
@@ -19,6 +19,9 @@ use Rattle.rules.specs.Calls.{recorded, closed}
 module _ {X : Type 0} where
   pub take-written : (n : ℕ) (new old : List X) → n ≤ length new → take n (written n new old) ≡ take n new
   take-written n new old l = take_at (take n new) (drop (0 + n) old) n (length-take-le n new l)
+
+  pub take-written_all : (n : ℕ) (new old : List X) → length new ≡ n → take n (written n new old) ≡ new
+  take-written_all n new old e = take-written n new old (omega arith) ∙ take_all n new (omega arith)
 
   pub get_or-written : (n : ℕ) (new old : List X) (d : X) → n ≤ length new → (i : ℕ) → i < n → get_or (written n new old) i d ≡ get_or new i d
   get_or-written n new old d l i b =
