@@ -1,12 +1,11 @@
 -- What a keep on a desk comes to.
 use Rattle.calls.specs.Shown.{Answer}
-use Rattle.std.proofs.Common.{◌≡◌, ℕ, Bool, true, false, cond, ◌||◌, List, map, length, ℤ, Ok, Err, vec_items, Result, sym, refl, ap, ◌∙◌, subst, arith}
+use Rattle.std.proofs.Common.{◌≡◌, ℕ, ◌||◌, List, map, length, ℤ, Ok, Err, vec_items, Result, sym, refl, ap, ◌∙◌, subst, arith}
 use Rattle.std.proofs.lemmas.Bool.{cond_both}
 use Rattle.linear.proofs.Outcomes.{not_accepted}
 use Rattle.records.specs.declared.refusal.Refusal.{Refusal}
-use Rattle.records.specs.declared.refusal.Refusal.TheVariants.{Unfit}
 use Rattle.records.specs.declared.relation.Relation.{Relation}
-use Rattle.rules.specs.Values.{Coords, written}
+use Rattle.rules.specs.Values.{Coords}
 use Rattle.rules.specs.Sheets as rules
 use Rattle.rules.specs.Calls.{keeping}
 use Rattle.rules.specs.Runs as runs

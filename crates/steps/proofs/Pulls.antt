@@ -1,6 +1,6 @@
 -- What a pull on a desk comes to.
 use Rattle.calls.specs.Shown.{Answer}
-use Rattle.std.proofs.Common.{◌≡◌, ℕ, ◌≤◌, Bool, true, false, cond, not, ◌||◌, eqb, ltb, List, map, length, take, ℤ, Ok, Err, vec_items, Result, sym, refl, ap, ◌∙◌, subst}
+use Rattle.std.proofs.Common.{◌≡◌, ℕ, ◌≤◌, List, map, length, take, ℤ, Ok, Err, vec_items, Result, sym, refl, ap, ◌∙◌, subst}
 use Rattle.std.proofs.lemmas.Bool.{cond_both}
 use Rattle.linear.proofs.Outcomes.{not_accepted}
 use Rattle.records.specs.declared.refusal.Refusal.{Refusal}
@@ -8,11 +8,8 @@ use Rattle.records.specs.declared.refusal.Refusal.TheVariants.{Unfit}
 use Rattle.records.specs.declared.relation.Relation.{Relation}
 use Rattle.records.specs.Outcomes.{image}
 use Rattle.rules.proofs.Accepted.{pullable}
-use Rattle.rules.specs.Limits.{working_places}
 use Rattle.rules.specs.Values.{Coords}
-use Rattle.rules.specs.Gripping.{counted}
 use Rattle.rules.specs.Sheets as rules
-use Rattle.rules.specs.Pulling.{proposed}
 use Rattle.rules.specs.Calls as Calls
 use Rattle.rules.specs.Calls.{pull_by, unfit_pull, pulling}
 use Rattle.rules.specs.Runs as runs

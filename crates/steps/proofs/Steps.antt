@@ -1,7 +1,8 @@
 -- What a call on a desk comes to, from what the sheet's call gave.
-use Rattle.std.proofs.Common.{◌≡◌, ℕ, ◌||◌, ltb, List, map, length, take, replicate, IfOk, Ok, Err, vec_items, Result, sym, refl, ap, ◌∙◌, subst, arith}
+use Rattle.std.proofs.Common.{◌≡◌, ℕ, ◌||◌, ltb, List, map, length, take, replicate, IfOk, Ok, Err, vec_items, vec_len, Result, sym, refl, ap, ◌∙◌, subst, arith}
 use Rattle.std.specs.declared.alloc.AllocError.{AllocError}
-use Rattle.std.proofs.lemmas.List.{length-replicate}
+use Rattle.std.specs.Vec.{with_items}
+use Rattle.std.proofs.lemmas.List.{length-replicate, with_items_is}
 use Rattle.records.specs.declared.refusal.Refusal.{Refusal}
 use Rattle.records.specs.declared.refusal.Refusal.TheVariants.{Unfit}
 use Rattle.records.specs.declared.relation.Relation.{Relation}
@@ -10,7 +11,9 @@ use Rattle.records.specs.Outcomes.{guard, image}
 use Rattle.rules.specs.Limits.{most_counted}
 use Rattle.rules.specs.Values.{Coords}
 use Rattle.rules.specs.Sheets as rules
-use Rattle.rules.specs.Calls.{grip_on, grip_answer}
+use Rattle.sheets.specs.declared.record.Sheet.{Sheet}
+use Rattle.sheets.specs.Shown.{numbers}
+use Rattle.rules.specs.Calls.{Bound, grip_on, grip_answer}
 use Rattle.rules.specs.Runs as runs
 use Rattle.grips.specs.Shown.{handing_back}
 use Rattle.calls.specs.Shown.{Answer, reply_of}
@@ -21,7 +24,7 @@ use Rattle.steps.specs.Steps.{in_use, use_in, Means, Stepped, SteppedIn}
 
 -- ---- replies
 -- a reply that is none of a grip's answers itself
-pub answers-done : (r : Result (Unit {0}) Refusal) (a : runs.Reply) → a ≡ runs.reply_to r → runs.Answers (runs.reply_to r) a
+answers-done : (r : Result (Unit {0}) Refusal) (a : runs.Reply) → a ≡ runs.reply_to r → runs.Answers (runs.reply_to r) a
 answers-done (Ok x) a e = e
 answers-done (Err x) a e = e
 
@@ -41,6 +44,20 @@ module _ {K : Type 0} (f : K → Coords) (l : Lists K) (sheet : rules.Sheet) (ph
     places = places-are d;
     phase = phase;
   }
+
+-- ---- binding and unbinding
+-- the sheet was bound or unbound with its relations and constants
+pub rebound_step : {K : Type 0} (f : K → Coords) (lists : Lists K) (s : rules.Sheet) (now : Sheet) (rs : List Relation) (qs : List K) (given : Result (Unit {0}) Refusal) (answer : Answer K) (b : Bound)
+    → length rs ≡ vec_len lists.relations → length qs ≡ vec_len lists.constants → (given, numbers now, rs, map f qs) ≡ b → reply_of f answer ≡ runs.reply_to given
+    → Stepped f (runs.rebound (in_use f lists s runs.free) b)
+    (record { values = lists.values; relations = with_items lists.relations rs; constants = with_items lists.constants qs; proposal = lists.proposal; working = lists.working; spare = lists.spare }) (Free now, answer)
+rebound_step f lists s now rs qs given answer b lr lq e h = record {
+  then =
+      holding f (record { values = lists.values; relations = with_items lists.relations rs; constants = with_items lists.constants qs; proposal = lists.proposal; working = lists.working; spare = lists.spare })
+      (numbers now) runs.free refl (with_items_is lists.relations rs lr) (ap (map f) (with_items_is lists.constants qs lq)) refl refl refl
+      ∙ ap (λ (b : Bound). (runs.rebound (in_use f lists s runs.free) b).then) e;
+  reply = subst (λ (b : Bound). runs.Answers (runs.reply_to b.0) (reply_of f answer)) e (answers-done given (reply_of f answer) h);
+}
 
 -- ---- gripping
 -- of the spare list only its count of places matters
