@@ -21,24 +21,13 @@ use Rattle.desk.specs.declared.desk.Desk.{Desk}
 use Rattle.desk.specs.Desks.{fresh, use_of}
 
 -- ---- a desk's lists are long enough
-relations_long : most_relations ≤ length no_relations
-unfolding no_relations
-relations_long = omega arith
-
-constants_long : (size : ℕ) → most_relations ≤ length (by_relation size)
-unfolding by_relation
-constants_long size = let l = zeros-length most_relations size in omega arith
-
-working_long : (size : ℕ) → working_places ≤ length (by_working size)
-unfolding by_working
-working_long size = let l = zeros-length working_places size in omega arith
-
 long : (size n : ℕ) (s : Sheet) → (opening size n (by_parameter size)).0 ≡ Ok s → LongLists n (fresh size n s)
+unfolding no_relations by_relation by_working
 long size n s e = record {
-  relations = relations_long;
-  constants = constants_long size;
+  relations = omega arith;
+  constants = let l = zeros-length most_relations size in omega arith;
   proposal = on_opened size n (by_parameter size) s e (λ t vs. n ≤ length (by_parameter size)) (λ few room. room);
-  working = working_long size;
+  working = let l = zeros-length working_places size in omega arith;
   spare_list = omega arith;
 }
 
