@@ -1,17 +1,17 @@
 -- What a grip answers where its lists are long enough and fit.
-use Rattle.std.proofs.Common.{◌≡◌, ℕ, ◌≤◌, Bool, false, ◌||◌, ltb, List, [], length, take, Ok, Err, Result, sym, ap, ◌∙◌}
+use Rattle.std.proofs.Common.{◌≡◌, ℕ, ◌≤◌, Bool, false, ◌||◌, ltb, List, length, take, Ok, sym, ap, ◌∙◌}
 use Rattle.std.proofs.lemmas.List.{length-take-le}
 use Rattle.std.proofs.lemmas.Bool.{le-ltb, ltb-false, or_parts, or_from}
-use Rattle.records.specs.declared.refusal.Refusal.{Refusal}
-use Rattle.records.specs.declared.refusal.Refusal.TheVariants.{Unfit, Roles, Crowded}
+use Rattle.records.specs.declared.refusal.Refusal.TheVariants.{Unfit}
 use Rattle.records.specs.declared.relation.Relation.{Relation}
 use Rattle.records.specs.declared.role.Role.{Role}
 use Rattle.records.specs.Outcomes.{guard}
 use Rattle.rules.specs.Values.{Coords}
 use Rattle.rules.specs.Sheets.{Sheet, Workings, bonds, unfit_values, unfit_relations, unfit}
-use Rattle.rules.specs.Gripping.{bad_roles, counted, shares, table}
+use Rattle.rules.specs.Gripping.{counted}
 use Rattle.rules.specs.Calls.{grip_on, grip_answer}
-use Rattle.linear.proofs.Outcomes.{passed, went_on}
+use Rattle.law.proofs.Facts.{accepted-grip}
+use Rattle.linear.proofs.Outcomes.{passed}
 use Rattle.workings.specs.Chosen.{bare, unready, gripped}
 use Rattle.workings.proofs.Bonds.{grip_on-bonds, ready_from}
 
@@ -42,30 +42,17 @@ pub record Accepted (size : ℕ) (s : Sheet) (vs : List Coords) (rs : List Relat
   pub roles_are : w.roles ≡ take s.count roles
   pub count_is : w.count ≡ s.count
 
-abbrev roles_of : Result Workings Refusal → List Role
-roles_of (Ok w) = w.roles
-roles_of (Err e) = []
-
-abbrev count_of : Result Workings Refusal → ℕ
-count_of (Ok w) = w.count
-count_of (Err e) = 0
-
 pub accepted : (size : ℕ) (s : Sheet) (vs : List Coords) (rs : List Relation) (qs : List Coords) (roles : List Role) (spare : List ℕ) (w : Workings)
     → Ok w ≡ grip_answer size s vs rs qs roles spare → Accepted size s vs rs qs roles spare w
 accepted size s vs rs qs roles spare w e =
-    let n = s.count in
-    let bs = bonds s rs qs in
-    let a = passed (ltb (length roles) n || ltb (length spare) 12 || unfit size s vs rs qs) Unfit (grip_on n (take n roles) bs) w (sym e) in
-    let b = or_parts (ltb (length roles) n || ltb (length spare) 12) (unfit size s vs rs qs) a.0 in
-    let d = or_parts (ltb (length roles) n) (ltb (length spare) 12) b.0 in
-    let f = passed (bad_roles n (take n roles)) Roles _ w a.1 in
-    let h = passed (ltb 12 (length (counted n (take n roles) bs))) Crowded _ w f.1 in
-    let t = went_on (table n (take n roles) (counted n (take n roles) bs)) (λ t. Ok (record { count = n; m = length (counted n (take n roles) bs); table = t; roles = take n roles; shares = shares n (take n roles) })) w h.1 in
-    let same : w.roles ≡ take n roles = ap roles_of (sym t.2) in
+    let a = passed (ltb (length roles) s.count || ltb (length spare) 12 || unfit size s vs rs qs) Unfit _ w (sym e) in
+    let b = or_parts (ltb (length roles) s.count || ltb (length spare) 12) _ a.0 in
+    let d = or_parts (ltb (length roles) s.count) _ b.0 in
+    let W = accepted-grip size s vs rs qs roles spare w (sym e) in
     record {
       fine = b.1;
       room = ltb-false _ _ d.1;
-      few = ltb-false _ _ h.0;
-      roles_are = same;
-      count_is = ap count_of (sym t.2);
+      few = W.few;
+      roles_are = W.roles_are;
+      count_is = W.count_is;
     }

@@ -8,11 +8,10 @@ use Rattle.records.specs.declared.relation.Relation.{Relation}
 use Rattle.rules.specs.Values.{written}
 use Rattle.records.specs.declared.relation.Mark.TheVariants.{Idle, Needed, Spare}
 use Rattle.records.specs.declared.role.Role.{Role}
-use Rattle.whole.specs.Tests.{tally}
 use Rattle.linear.specs.Elimination.{Grid}
 use Rattle.rules.specs.Sheets.{Sheet, Bond, bonds, no_bond, relation_at}
-use Rattle.rules.specs.Gripping.{counts, counted, is_needed, row_of, marked, is_spare, spares}
-use Rattle.rules.proofs.Bonds.{marked-at}
+use Rattle.rules.specs.Gripping.{counts, is_needed, row_of, marked, is_spare, spares}
+use Rattle.rules.proofs.Bonds.{none, marked-at}
 use Rattle.grips.specs.Spares.{spare_marks}
 
 module _ (rs : List Relation) where
@@ -25,7 +24,7 @@ module _ (rs : List Relation) where
   -- only the relations below k are read
   pub spare_marks-front : (b k : ℕ) → k ≤ b → spare_marks (take b rs) k ≡ spare_marks rs k
   spare_marks-front b zero h = refl
-  spare_marks-front b (suc k) h = λ j. spare_marks-front b k (omega arith) j ++ cond (is_spare (get_or-take b rs k (record { coefficients = []; mark = Idle }) (omega arith) j).mark) (k ∷ []) []
+  spare_marks-front b (suc k) h = λ j. spare_marks-front b k (omega arith) j ++ cond (is_spare (get_or-take b rs k none (omega arith) j).mark) (k ∷ []) []
 
   -- further on there are no fewer
   pub grows : (k b : ℕ) → k ≤ b → length (spare_marks rs k) ≤ length (spare_marks rs b)
@@ -67,24 +66,3 @@ module _ (n : ℕ) (roles : List Role) where
       by true true ih = let l = length-append (spares n roles bs t k) [] in omega (arith, l)
       by true false ih = let l = length-append (spares n roles bs t k) (k ∷ []) in omega (arith, l)
       by false a ih = let l = length-append (spares n roles bs t k) [] in omega (arith, l)
-
-  -- how many of an index's tests pass, from the front
-  tally_front : (m : ℕ) (p : ℕ → Bool) → tally (suc m) p ≡ elim (p 0) as (λ z. ℕ) [ true ↦ suc (tally m (λ i. p (suc i))) | false ↦ tally m (λ i. p (suc i)) ]
-  tally_front zero p = refl
-  tally_front (suc m) p = by (p 0) (p (suc m)) (tally_front m p)
-    where
-      by : (a b : Bool) → tally (suc m) p ≡ elim a as (λ z. ℕ) [ true ↦ suc (tally m (λ i. p (suc i))) | false ↦ tally m (λ i. p (suc i)) ]
-          → elim b as (λ z. ℕ) [ true ↦ suc (tally (suc m) p) | false ↦ tally (suc m) p ]
-          ≡ elim a as (λ z. ℕ) [ true ↦ suc (elim b as (λ z. ℕ) [ true ↦ suc (tally m (λ i. p (suc i))) | false ↦ tally m (λ i. p (suc i)) ]) | false ↦ elim b as (λ z. ℕ) [ true ↦ suc (tally m (λ i. p (suc i))) | false ↦ tally m (λ i. p (suc i)) ] ]
-      by true true e = ap suc e
-      by true false e = e
-      by false true e = ap suc e
-      by false false e = e
-
-  pub rows_all : (bs : List Bond) → row_of n roles bs (length bs) ≡ length (counted n roles bs)
-  rows_all [] = refl
-  rows_all (b ∷ bs) = tally_front (length bs) (λ j. counts n roles (get_or (b ∷ bs) j no_bond).coefs) ∙ by (counts n roles b.coefs) (rows_all bs)
-    where
-      by : (c : Bool) → row_of n roles bs (length bs) ≡ length (counted n roles bs) → elim c as (λ z. ℕ) [ true ↦ suc (row_of n roles bs (length bs)) | false ↦ row_of n roles bs (length bs) ] ≡ length (cond c (b ∷ counted n roles bs) (counted n roles bs))
-      by true e = ap suc e
-      by false e = e

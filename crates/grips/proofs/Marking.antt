@@ -14,15 +14,13 @@ use Rattle.linear.specs.Elimination.{Grid, entry}
 use Rattle.rules.specs.Values.{written}
 use Rattle.rules.specs.Sheets.{Bond, bond, no_bond, relation_at}
 use Rattle.rules.specs.Gripping.{counts, row_of, mark_of, with_mark, marked}
+use Rattle.rules.proofs.Bonds.{none}
 use Rattle.workings.specs.Chosen.{bare}
 use Rattle.workings.proofs.Counting.{counts-take}
 
 -- the relations with their marks
 abbrev pub marks : ℕ → List Role → List Bond → Grid → List Relation → List Relation
 marks n roles bs t rs = tab (length bs) (λ i. with_mark (relation_at rs i) (mark_of n roles bs t i))
-
-abbrev pub none : Relation
-none = record { coefficients = []; mark = Idle }
 
 -- the place behind those that were written
 pub written_next : {X : Type 0} (new old : List X) (i : ℕ) (z : X) → i ≤ length new → get_or (written i new old) i z ≡ get_or old i z

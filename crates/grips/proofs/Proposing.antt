@@ -18,21 +18,22 @@ sized-values f size h [] i l = absurd (not-suc-le-zero l)
 sized-values f size h (v ∷ vs) zero l = h v
 sized-values f size h (v ∷ vs) (suc i) l = sized-values f size h vs i (omega arith)
 
-module _ {K : Type 0} (f : K → Coords) (size : ℕ) (sized : (v : K) → length (f v) ≡ size) (s : Sheet) (few : s.bound ≤ most_relations) (vs : List K) (rs : List Relation) (qs : List Coords) (w : Workings)
-    (wishes proposal working : List Coords) (r : Result ℤ Refusal) (after cleared : List Coords) (e : (r, after, cleared) ≡ pulling size s (map f vs) rs qs w wishes proposal working) where
-  -- the sheet with what was given
-  abbrev with_sheet : ℤ → Sheet × ℤ
-  with_sheet d = (s, d)
+abbrev with_sheet : Sheet → ℤ → Sheet × ℤ
+with_sheet s d = (s, d)
 
-  pub gave : handing_back s (image with_sheet r) ≡ handing_back s (image with_sheet (pulling size s (map f vs) rs qs w wishes proposal working).0)
-  gave = ap (λ (P : Pulled). handing_back s (image with_sheet P.0)) e
+-- what a pull gave, as the rules have it
+pub record Gave (size : ℕ) (s : Sheet) (vs : List Coords) (rs : List Relation) (qs : List Coords) (w : Workings) (wishes proposal working : List Coords) (r : Result ℤ Refusal) (after cleared : List Coords) : Type 0 where
+  pub result : handing_back s (image (with_sheet s) r) ≡ handing_back s (image (with_sheet s) (pulling size s vs rs qs w wishes proposal working).0)
+  pub proposal_is : after ≡ (pulling size s vs rs qs w wishes proposal working).1
+  pub working_is : cleared ≡ (pulling size s vs rs qs w wishes proposal working).2
+  pub rightly : PulledRightly size s vs rs qs w wishes (told s.count after r)
 
-  pub proposal_is : after ≡ (pulling size s (map f vs) rs qs w wishes proposal working).1
-  proposal_is = ap (λ (P : Pulled). P.1) e
-
-  pub working_is : cleared ≡ (pulling size s (map f vs) rs qs w wishes proposal working).2
-  working_is = ap (λ (P : Pulled). P.2) e
-
-  pub rightly : PulledRightly size s (map f vs) rs qs w wishes (told s.count after r)
+pub gave : {K : Type 0} (f : K → Coords) (size : ℕ) → ((v : K) → length (f v) ≡ size) → (s : Sheet) → s.bound ≤ most_relations → (vs : List K) (rs : List Relation) (qs : List Coords) (w : Workings) (wishes proposal working : List Coords)
+    (r : Result ℤ Refusal) (after cleared : List Coords) → (r, after, cleared) ≡ pulling size s (map f vs) rs qs w wishes proposal working → Gave size s (map f vs) rs qs w wishes proposal working r after cleared
+gave f size sized s few vs rs qs w wishes proposal working r after cleared e = record {
+  result = ap (λ (P : Pulled). handing_back s (image (with_sheet s) P.0)) e;
+  proposal_is = ap (λ (P : Pulled). P.1) e;
+  working_is = ap (λ (P : Pulled). P.2) e;
   rightly = subst (λ (P : Pulled). PulledRightly size s (map f vs) rs qs w wishes (told s.count P.1 P.0)) (sym e)
-      (pulls_rightly size s (map f vs) rs qs w wishes proposal working few (sized-values f size sized vs))
+      (pulls_rightly size s (map f vs) rs qs w wishes proposal working few (sized-values f size sized vs));
+}

@@ -10,11 +10,13 @@ use Rattle.rules.specs.Values.{Coords, written}
 use Rattle.rules.specs.Sheets.{Sheet, Bond, bond, bonds, relation_at, Workings}
 use Rattle.rules.specs.Gripping.{counted, row_of, marked}
 use Rattle.rules.specs.Calls.{Listed, spare_numbers}
+use Rattle.law.proofs.Facts.{row_is}
 use Rattle.workings.specs.Chosen.{bare}
 use Rattle.grips.specs.Spares.{spare_marks}
 use Rattle.grips.proofs.Answering.{Accepted}
-use Rattle.grips.proofs.Stripped.{bare_strip, marked_strip}
-use Rattle.grips.proofs.Listing.{spare_marks-front, spares-marked, spares-few, rows_all}
+use Rattle.grips.proofs.Stripped.{marked_strip}
+use Rattle.workings.proofs.Bonds.{bare_strip}
+use Rattle.grips.proofs.Listing.{spare_marks-front, spares-marked, spares-few}
 use Rattle.grips.proofs.Marking.{marked_front}
 
 -- The first k numbers of a list that was written from the front.
@@ -58,7 +60,7 @@ module _ (size : ℕ) (s : Sheet) (vs : List Coords) (rs : List Relation) (qs : 
   pub few : length (spare_marks bound_now (length bound_now)) ≤ length spare
   few =
       let l = tab-length s.bound (λ i. bond s.count (relation_at rs i).coefficients (get_or qs i [])) in
-      let r : row_of s.count w.roles bs s.bound ≡ length (counted s.count w.roles bs) = ap (row_of s.count w.roles bs) (sym l) ∙ rows_all s.count w.roles bs in
+      let r : row_of s.count w.roles bs s.bound ≡ length (counted s.count w.roles bs) = row_is s.count w.roles bs s.bound (omega arith) ∙ ap (λ (xs : List Bond). length (counted s.count w.roles xs)) (take_all s.bound bs (omega arith)) in
       let m : length (counted s.count w.roles bs) ≡ length (counted s.count (take s.count roles) bs) = ap (λ (l : List Role). length (counted s.count l bs)) told.roles_are in
       let a = spares-few s.count w.roles bs w.table s.bound in
       let n = ap length numbered in

@@ -6,7 +6,7 @@ use borrow.Author.Differences.{ints}
 use Rattle.std.specs.Int.{int_wrap}
 use Rattle.std.proofs.Math.Nat.{div-mul-le_self}
 use Rattle.std.proofs.lemmas.Int.{to_z-of_z, quot-rem, rem_below, wrapping_mul_is, int_wrap_fits, int_wrap-add_same, SFits-int_wrap}
-use Rattle.std.proofs.lemmas.Bool.{lt-ltb, le-ltb, ltb-true, eq-eqb, ne_eqb}
+use Rattle.std.proofs.lemmas.Bool.{lt-ltb, ltb-true, eq-eqb, ne_eqb}
 use Rattle.records.specs.declared.refusal.Refusal.{Refusal}
 use Rattle.records.specs.declared.refusal.Refusal.TheVariants.{DoesNotFit}
 use Rattle.whole.proofs.Integers.{minus-one-*, +-*, neg-*}
@@ -18,12 +18,6 @@ fits_true z f = lt-ltb _ _ f.sfits
 
 pub true_fits : (z : ℤ) → fits64 z ≡ true → SFits w64 z
 true_fits z e = record { sfits = ltb-true (mag z) (2 ^ 63) e }
-
-pub fits_false : (z : ℤ) → (SFits w64 z → ⊥) → fits64 z ≡ false
-fits_false z f = le-ltb (mag z) (2 ^ 63) (outside (mag z) (λ l. f (record { sfits = l })))
-  where
-    outside : (n : ℕ) → (n < 2 ^ 63 → ⊥) → 2 ^ 63 ≤ n
-    outside n h = omega arith
 
 -- p is the product and z the sum
 pub fused_ok : (u k v p z : ℤ) → SFits w64 (k *ℤ v) → p ≡ k *ℤ v → SFits w64 (u +ℤ p) → z ≡ u +ℤ p → Ok z ≡ fused_at u k v

@@ -1,14 +1,15 @@
 -- Common divisors and multiples: what a pull divides by, and what its denominator is a multiple of.
-use Rattle.std.proofs.Common.{◌≡◌, ℕ, zero, suc, ◌+◌, ◌*◌, ◌<◌, Bool, true, false, cond, ◌⊎◌, List, [], ◌∷◌, length, get_or, ℤ, pos, ◌*ℤ◌, nat_abs, ◌<ℤ◌, sym, refl, ap, ◌∙◌, subst, inl, inr, ⊎_elim, true≢false, not-suc-le-zero, arith}
+use Rattle.std.proofs.Common.{◌≡◌, ℕ, zero, suc, ◌+◌, ◌*◌, ◌<◌, ◌≢◌, negsuc, Bool, true, false, cond, ◌⊎◌, List, [], ◌∷◌, length, get_or, ℤ, pos, ◌*ℤ◌, nat_abs, ◌<ℤ◌, sym, refl, ap, ◌∙◌, subst, inl, inr, ⊎_elim, true≢false, not-suc-le-zero, arith}
 use Prim.Native.Nat.{◌∣◌}
 use native.Mathlib.Decide.{ℕ_discrete}
 use native.Mathlib.Nat.{dvd-zero, dvd_trans}
 use lib.Signed.{quot_z}
 use borrow.Author.Differences.{ints}
 use Rattle.std.proofs.lemmas.List.{get_or_append_left, get_or-append-add, get_or_past}
-use Rattle.std.proofs.lemmas.Bool.{cases_lt}
+use Rattle.std.proofs.lemmas.Bool.{cond_both, cases_lt}
 use Rattle.whole.specs.Lists.{tab, at, coord}
 use Rattle.whole.specs.Gcd.{gcd_all, lcm}
+use Rattle.whole.proofs.Integers.{not_both}
 use Rattle.whole.proofs.Lists.{get_or-tab, at-tab}
 use Rattle.whole.proofs.Divisors.{gcd_all-divides, gcd_all-above, exact}
 use Rattle.whole.proofs.Multiples.{lcm-left, lcm-right, lcm-above}
@@ -29,6 +30,14 @@ joined_at (u ∷ us) zero c = ⊎_elim
     (cases_lt c (length u))
 joined_at (u ∷ us) (suc s) c = ⊎_elim inl (λ h. inr (length u + h.0, get_or-append-add u (joined us) h.0 (pos 0) ∙ h.1)) (joined_at us s c)
 
+pub some_size : (a : ℤ) → a ≢ pos 0 → 0 < nat_abs a
+some_size (pos zero) d = absurd (d refl)
+some_size (pos (suc n)) d = omega arith
+some_size (negsuc n) d = omega arith
+
+pub above_zero : (l : ℕ) → 0 < l → pos 0 <ℤ pos l
+above_zero l h = omega (arith, ints)
+
 -- e and every coordinate are multiples of their divisor, which is above 0 where e is
 module _ (e : ℤ) (us : List Coords) where
   abbrev pub h : ℕ
@@ -44,13 +53,7 @@ module _ (e : ℤ) (us : List Coords) where
       (joined_at us s c))
 
   pub h-above : pos 0 <ℤ e → pos 0 <ℤ pos h
-  h-above l = up h (gcd_all-above (e ∷ joined us) 0 (some e l))
-    where
-      some : (a : ℤ) → pos 0 <ℤ a → 0 < nat_abs a
-      some a k = omega (arith, ints)
-
-      up : (g : ℕ) → 0 < g → pos 0 <ℤ pos g
-      up g k = omega (arith, ints)
+  h-above l = above_zero h (gcd_all-above (e ∷ joined us) 0 (some_size e (not_both e l)))
 
 -- ---- numbers above 0
 pub factor-above : (g y b : ℕ) → g * y ≡ b → 0 < b → 0 < y
@@ -64,11 +67,9 @@ factor-above g (suc y) b e l = omega arith
 module _ (t : Grid) (ps : List ℕ) where
   pub common-above : (k : ℕ) → ((i : ℕ) → i < k → is_needed t i ≡ true → 0 < get_or ps i 1) → 0 < common k t ps
   common-above zero h = omega arith
-  common-above (suc k) h = by (is_needed t k) refl (common-above k (λ i l. h i (omega arith)))
-    where
-      by : (b : Bool) → is_needed t k ≡ b → 0 < common k t ps → 0 < cond b (lcm (common k t ps) (get_or ps k 1)) (common k t ps)
-      by true e l = lcm-above (common k t ps) (get_or ps k 1) l (h k (omega arith) e)
-      by false e l = l
+  common-above (suc k) h =
+      let l = common-above k (λ i b. h i (omega arith)) in
+      cond_both (is_needed t k) _ _ (λ (x : ℕ). 0 < x) (λ e. lcm-above (common k t ps) (get_or ps k 1) l (h k (omega arith) e)) (λ e. l)
 
   pub common-multiple : (k i : ℕ) → i < k → is_needed t i ≡ true → get_or ps i 1 ∣ common k t ps
   common-multiple zero i l e = absurd (not-suc-le-zero l)

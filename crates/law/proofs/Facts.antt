@@ -1,8 +1,9 @@
 -- Pivots, workings, and which relations are spare.
-use Rattle.std.proofs.Common.{◌≡◌, ℕ, zero, suc, ◌<◌, ◌≤◌, Bool, true, false, cond, ◌||◌, ltb, ◌≢◌, ◌↔◌, List, [], ◌∷◌, ◌++◌, length, get_or, take, drop, ℤ, pos, ◌*ℤ◌, ◌≤ℤ◌, Ok, Result, sym, refl, ap, ◌∙◌, subst, suc-le-suc, zero-le, add-one, arith, length-append, take-append-drop, drop-cons}
+use Rattle.std.proofs.Common.{◌≡◌, ℕ, zero, suc, ◌<◌, ◌≤◌, Bool, true, false, cond, ◌||◌, ltb, ◌≢◌, ◌↔◌, List, [], ◌∷◌, ◌++◌, length, get_or, take, drop, ℤ, pos, ◌*ℤ◌, ◌≤ℤ◌, Ok, Result, sym, refl, ap, ◌∙◌, subst, add-one, arith, length-append}
 use mathlib.Core.Bool.{false≢true}
+use Rattle.std.proofs.Math.Seq.{get_or-append_seam, split_at}
 use Rattle.std.proofs.lemmas.List.{get_or_append_left, take_more}
-use Rattle.std.proofs.lemmas.Bool.{not-false, ltb-false}
+use Rattle.std.proofs.lemmas.Bool.{true_from_ne_false, not-false, ltb-false}
 use Rattle.whole.specs.Lists.{at}
 use Rattle.whole.specs.Sums.{sum}
 use Rattle.whole.specs.Tests.{nonzero}
@@ -28,7 +29,8 @@ use Rattle.rules.specs.Gripping.{role, share, is_loose, is_weight, bad_weight, b
 use Rattle.rules.specs.Calls.{grip_on, grip_answer, marks_after}
 use Rattle.rules.proofs.Bonds.{nth, marked-at}
 use Rattle.rules.proofs.Counting.{counted-append}
-use Rattle.rules.proofs.Roles.{good-weights, share-≥0, weight_is}
+use Rattle.rules.proofs.Roles.{good-weights, share-≥0, no_share, weight_is}
+use Rattle.law.specs.Standing.{GrippedWell}
 use Rattle.law.specs.Facts.{table_after, Pivots, Diagonal, WorkedOut, AcceptedGrip, Combination, SpareExactly}
 
 shares-≥0 : (n : ℕ) (roles : List Role) → bad_roles n roles ≡ false → (s : ℕ) → s < n → pos 0 ≤ℤ share (role roles s)
@@ -73,6 +75,10 @@ module _ (n : ℕ) (roles : List Role) (all : List Bond) (w : Workings) where
       let g = went_on (table n roles those) _ w a9.1 in
       made g.0 a8.0 a9.0 g.1 g.2
 
+  -- their table means what a finished elimination means
+  pub gripped-well : WorkedOut n roles all w → GrippedWell n all roles w
+  gripped-well W = record { roles_are = W.roles_are; weights = good-weights n roles W.good; shares_are = W.shares_are; means = W.means }
+
 pub accepted-grip : AcceptedGrip
 accepted-grip size s vs rs qs roles list w e =
     let a1 = passed (ltb (length roles) s.count || ltb (length list) most_counted || unfit size s vs rs qs) Unfit _ w e in
@@ -80,11 +86,11 @@ accepted-grip size s vs rs qs roles list w e =
 
 -- ---- the relations that count, split at one
 module _ (n : ℕ) (roles : List Role) where
-  split_at : (a : List Bond) (r : Bond) (b : List Bond) → counts n roles r.coefs ≡ true → counted n roles (a ++ (r ∷ b)) ≡ counted n roles a ++ (r ∷ counted n roles b)
-  split_at a r b e = counted-append n roles a (r ∷ b) ∙ (λ i. counted n roles a ++ cond (e i) (r ∷ counted n roles b) (counted n roles b))
+  counted_split : (a : List Bond) (r : Bond) (b : List Bond) → counts n roles r.coefs ≡ true → counted n roles (a ++ (r ∷ b)) ≡ counted n roles a ++ (r ∷ counted n roles b)
+  counted_split a r b e = counted-append n roles a (r ∷ b) ∙ (λ i. counted n roles a ++ cond (e i) (r ∷ counted n roles b) (counted n roles b))
 
   -- the row of relation i is how many of the earlier ones count
-  row_is : (bs : List Bond) (i : ℕ) → i ≤ length bs → row_of n roles bs i ≡ length (counted n roles (take i bs))
+  pub row_is : (bs : List Bond) (i : ℕ) → i ≤ length bs → row_of n roles bs i ≡ length (counted n roles (take i bs))
   row_is bs zero l = refl
   row_is bs (suc i) l =
       by (counts n roles (get_or bs i no_bond).coefs) refl (row_is bs i (omega arith))
@@ -96,24 +102,11 @@ module _ (n : ℕ) (roles : List Role) where
       by true e ih = let a = length-append (counted n roles (take i bs)) (get_or bs i no_bond ∷ []) in omega arith
       by false e ih = let a = length-append (counted n roles (take i bs)) [] in omega arith
 
-at_length : (a : List Bond) (r : Bond) (b : List Bond) → get_or (a ++ (r ∷ b)) (length a) no_bond ≡ r
-at_length [] r b = refl
-at_length (x ∷ a) r b = at_length a r b
-
-inside : (a : List Bond) (r : Bond) (b : List Bond) → length a < length (a ++ (r ∷ b))
-inside [] r b = suc-le-suc zero-le
-inside (x ∷ a) r b = suc-le-suc (inside a r b)
-
 -- with good weights a share is not 0 exactly for the loose
 loose_share : (r : Role) → bad_weight r ≡ false → is_loose r ≡ true → share r ≢ pos 0
 loose_share Held w e = absurd (false≢true e)
 loose_share Pulled w e = absurd (false≢true e)
 loose_share (Loose x) w e = (weight_is x (not-false (is_weight x) w)).some
-
-share_loose : (r : Role) → share r ≢ pos 0 → is_loose r ≡ true
-share_loose Held d = absurd (d refl)
-share_loose Pulled d = absurd (d refl)
-share_loose (Loose x) d = refl
 
 -- a combination of the rows before the one at the split
 module _ (n : ℕ) (roles : List Role) (good : bad_roles n roles ≡ false) (a : List Bond) (r : Bond) (b : List Bond) where
@@ -121,15 +114,15 @@ module _ (n : ℕ) (roles : List Role) (good : bad_roles n roles ≡ false) (a :
   rows = a ++ (r ∷ b)
 
   own : (s : ℕ) → coef rows (length a) s ≡ at r.coefs s
-  own s = ap (λ (x : Bond). at x.coefs s) (at_length a r b)
+  own s = ap (λ (x : Bond). at x.coefs s) (get_or-append_seam a r b no_bond)
 
   others : (y : ℕ → ℤ) (s : ℕ) → sum (length a) (λ j. y j *ℤ coef rows j s) ≡ sum (length a) (λ j. y j *ℤ coef a j s)
   others y s = sum_ext (length a) (λ j l. ap (λ (x : Bond). y j *ℤ at x.coefs s) (get_or_append_left a (r ∷ b) no_bond j l))
 
   spare-split : (entry (table_after n roles rows (length rows)) (length a) (length a) ≡ pos 0) ↔ Combination n roles a r
-  spare-split = let h = Spared.spares n (length rows) (λ s. share (role roles s)) (coef rows) (shares-≥0 n roles good) (length a) (inside a r b) in (
+  spare-split = let h = Spared.spares n (length rows) (λ s. share (role roles s)) (coef rows) (shares-≥0 n roles good) (length a) (let x = length-append a (r ∷ b) in omega arith) in (
     (λ e. let c = h.0 e in (c.0, c.1, c.2, λ s l q. ap (λ x. c.0 *ℤ x) (sym (own s)) ∙ c.3 s l (loose_share (role roles s) (good-weights n roles good s l) q) ∙ others c.1 s)),
-    λ c. h.1 (c.0, c.1, c.2, λ s l q. ap (λ x. c.0 *ℤ x) (own s) ∙ c.3 s l (share_loose (role roles s) q) ∙ sym (others c.1 s)),
+    λ c. h.1 (c.0, c.1, c.2, λ s l q. ap (λ x. c.0 *ℤ x) (own s) ∙ c.3 s l (true_from_ne_false (is_loose (role roles s)) (λ f. q (no_share (role roles s) f))) ∙ sym (others c.1 s)),
   )
 
 -- ---- marks
@@ -166,7 +159,7 @@ module _ (size : ℕ) (s : Sheet) (vs : List Coords) (rs : List Relation) (qs : 
 
   -- the relations, split at this one
   split : all ≡ take i all ++ (b ∷ drop (suc i) all)
-  split = let z = long in sym (take-append-drop i all) ∙ ap (λ (xs : List Bond). take i all ++ xs) (drop-cons all i no_bond (omega arith))
+  split = let z = long in split_at all i no_bond (omega arith)
 
   abbrev done : Grid
   done = table_after n ρ (counted n ρ all) (length (counted n ρ all))
@@ -180,7 +173,7 @@ module _ (size : ℕ) (s : Sheet) (vs : List Coords) (rs : List Relation) (qs : 
 
   here : counts n ρ b.coefs ≡ true → (entry done (length earlier) (length earlier) ≡ pos 0) ↔ Combination n ρ earlier b
   here c = subst (λ (xs : List Bond). (entry (table_after n ρ xs (length xs)) (length earlier) (length earlier) ≡ pos 0) ↔ Combination n ρ earlier b)
-      (sym (ap (counted n ρ) split ∙ split_at n ρ (take i all) b (drop (suc i) all) c))
+      (sym (ap (counted n ρ) split ∙ counted_split n ρ (take i all) b (drop (suc i) all) c))
       (spare-split n ρ W.good earlier b (counted n ρ (drop (suc i) all)))
 
   exactly : ((relation_at (marks_after (Ok w) s rs qs) i).mark ≡ Spare) ↔ ((counts n ρ b.coefs ≡ true) × Combination n ρ earlier b)

@@ -1,3 +1,4 @@
+pub mod Refusals
 pub mod Divided
 pub mod Multipliers
 pub mod Offers

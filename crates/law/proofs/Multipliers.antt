@@ -1,9 +1,8 @@
 -- The multipliers of a pull solve the table's rows.
-use Rattle.std.proofs.Common.{◌≡◌, ℕ, zero, suc, ◌/◌, ◌<◌, true, false, cond, not, ◌&&◌, ◌≢◌, List, [], ◌∷◌, get_or, ℤ, pos, negsuc, ◌*ℤ◌, nat_abs, ◌≤ℤ◌, ◌<ℤ◌, sym, refl, ap, ◌∙◌, subst, ⊎_elim, true≢false, arith}
+use Rattle.std.proofs.Common.{◌≡◌, ℕ, suc, ◌/◌, ◌<◌, true, false, cond, not, ◌&&◌, ◌≢◌, List, [], ◌∷◌, get_or, ℤ, pos, ◌*ℤ◌, nat_abs, ◌≤ℤ◌, ◌<ℤ◌, sym, ap, ◌∙◌, subst, ⊎_elim, true≢false}
 use Prim.Native.Nat.{◌∣◌}
 use native.Mathlib.Nat.{mul-div_cancel'}
 use lib.Signed.{quot_z}
-use borrow.Author.Differences.{ints}
 use Rattle.std.proofs.lemmas.Bool.{and_cases, and_parts, not-true, not-false}
 use Rattle.whole.specs.Lists.{coord}
 use Rattle.whole.specs.Tests.{any, nonzero}
@@ -18,15 +17,7 @@ use Rattle.linear.specs.Placings.{Multipliers}
 use Rattle.rules.specs.Values.{Coords}
 use Rattle.rules.specs.Gripping.{is_needed}
 use Rattle.rules.specs.Pulling.{contradicts, divisors, lowered, lowered_sums, common, multipliers}
-use Rattle.law.proofs.Divided.{coord-grid, factor-above, common-above, common-multiple}
-
-some_size : (a : ℤ) → a ≢ pos 0 → 0 < nat_abs a
-some_size (pos zero) d = absurd (d refl)
-some_size (pos (suc n)) d = omega arith
-some_size (negsuc n) d = omega arith
-
-above_zero : (l : ℕ) → 0 < l → pos 0 <ℤ pos l
-above_zero l h = omega (arith, ints)
+use Rattle.law.proofs.Divided.{coord-grid, some_size, above_zero, factor-above, common-above, common-multiple}
 
 module _ (size m : ℕ) (t : Grid) (gs : List Coords) where
   abbrev pub hs : List ℕ

@@ -1,32 +1,29 @@
 -- Where the lists are long enough no call gives 1: they fit at the opening, and each call keeps them so.
-use Rattle.std.proofs.Common.{◌≡◌, ℕ, zero, suc, ◌+◌, ◌-◌, ◌*◌, ◌<◌, ◌≤◌, min, Bool, true, false, cond, not, ◌||◌, eqb, ltb, leb, ◌≢◌, List, [], ◌∷◌, length, get_or, take, set, replicate, ℤ, pos, ◌*ℤ◌, nat_abs, ◌<ℤ◌, Ok, Err, Result, sym, refl, ap, ◌∙◌, subst, ap₂, ⊎_elim, not-suc-le-zero, arith}
-use native.Mathlib.Nat.{min-eq_left}
+use Rattle.std.proofs.Common.{◌≡◌, ℕ, zero, suc, ◌+◌, ◌-◌, ◌*◌, ◌<◌, ◌≤◌, Bool, false, not, ◌||◌, eqb, ltb, leb, ◌≢◌, List, [], ◌∷◌, length, get_or, take, set, replicate, ℤ, pos, nat_abs, ◌<ℤ◌, Ok, Err, Result, sym, refl, ap, ◌∙◌, subst, ap₂, ⊎_elim, not-suc-le-zero, arith}
 use lib.Signed.{lt_z}
 use borrow.Author.Differences.{ints}
 use Rattle.std.proofs.lemmas.List.{length-set, length-replicate, get_or-set_same, get_or-set_other}
-use Rattle.std.proofs.lemmas.Bool.{or_parts, or_from, not-false, not_from_true, ltb-false, le-ltb, leb-false, eq-eqb, cases_lt}
+use Rattle.std.proofs.lemmas.Bool.{cond-false, false_from_ne_true, or_parts, or_from, not_from_true, le-ltb, eq-eqb, cases_lt}
 use Rattle.whole.specs.Lists.{tab, at}
 use Rattle.whole.specs.Tests.{any, above, nonzero}
 use Rattle.whole.proofs.Lists.{tab-length}
 use Rattle.whole.proofs.Tests.{any_false, none_any, any_ext}
 use Rattle.linear.specs.Elimination.{Grid, step, beyond, within_limit, eliminated, start}
-use Rattle.linear.proofs.Outcomes.{passed, not_accepted}
-use Rattle.records.specs.Numbers.{number_of}
-use Rattle.records.specs.Outcomes.{guard, onward}
 use Rattle.records.specs.declared.refusal.Refusal.{Refusal}
-use Rattle.records.specs.declared.refusal.Refusal.TheVariants.{Unfit, Count, Full, Coefficients, Constant, Untrue, NoRelation, Roles, Crowded, TableTooLarge, WishTooFar, GapTooLarge, Impossible, TooFine, OffSheet, NotOpen}
+use Rattle.records.specs.declared.refusal.Refusal.TheVariants.{Unfit, Full, Coefficients, Constant, Untrue, NoRelation, Roles, Crowded, TableTooLarge, WishTooFar, GapTooLarge, Impossible, NotOpen}
 use Rattle.records.specs.declared.relation.Relation.{Relation}
 use Rattle.records.specs.declared.role.Role.{Role}
-use Rattle.rules.specs.Limits.{most_parameters, most_relations, most_counted, most_residual, most_denominator, working_places}
+use Rattle.rules.specs.Limits.{most_parameters, most_relations, most_counted, most_residual, working_places}
 use Rattle.rules.specs.Values.{Coords, zeros, written}
 use Rattle.rules.specs.Sheets.{Sheet, Bond, bond, bonds, relation_at, Workings, bad_denominator, bad_values, bad_coefs, bad_constant, bad_relation, unfit_values, unfit_relations, unfit}
-use Rattle.rules.specs.Gripping.{role, counted, coef, share, shares, bad_roles, table, marked, with_mark, mark_of}
-use Rattle.rules.specs.Pulling.{Placing, far_wish, residuals, carried, some_above, contradicts, divisors, lowered, lowered_sums, common, multipliers, numerators, lowest, too_fine, settled, solved}
+use Rattle.rules.specs.Gripping.{role, counted, coef, share, bad_roles, table, marked, with_mark, mark_of}
+use Rattle.rules.specs.Pulling.{Placing, far_wish, residuals, carried, some_above, contradicts}
 use Rattle.rules.specs.Calls as Calls
 use Rattle.rules.specs.Calls.{opening, untrue, recorded, closed, bind_answer, bind_by, unbind_answer, unbind_by, grip_answer, unfit_pull}
 use Rattle.rules.specs.Runs.{Phase, free, gripped, proposing, Use, Call, bind, unbind, grip, pull, keep, drop_grip, nothing, spares, placing, Reply, Answers, rebound, held_by, pulled_to, freed, in_turn, opened}
 use Rattle.rules.specs.Runs as Runs
-use Rattle.rules.proofs.Bonds.{none, get_or-written, length-written, closed_below, closed-above, closed-length, marked-at, bonds-marked}
+use Rattle.rules.proofs.Accepted.{on_opened, bindable, unbindable}
+use Rattle.rules.proofs.Bonds.{zeros-length, none, get_or-written, length-written, closed_below, closed-above, closed-length, marked-at, bonds-marked}
 use Rattle.rules.proofs.Fit.{fit_values}
 use Rattle.law.specs.Histories.{Entry, Told, at_opening, tell}
 use Rattle.law.specs.Law.{Made}
@@ -35,31 +32,11 @@ use Rattle.law.specs.Plenty.{LongLists, LongCall, LongCalls, NeverUnfit, FitsAlw
 use Rattle.law.proofs.Divided.{coord-grid}
 use Rattle.law.proofs.Facts.{accepted-grip}
 use Rattle.law.proofs.Pulls.{answer, is_accepted, outcome, pulled_is}
+use Rattle.law.proofs.Refusals.{fine, guarded, open_guard, same_refusal, onwards}
+use Rattle.law.proofs.Solved.{solved_refusals}
 use Rattle.law.proofs.Runs.{stands_opened, stands_on}
 
 -- ---- results that are not refused with 1
-other : (e : Refusal) → number_of e ≢ 1 → e ≢ Unfit
-other e h q = h (ap number_of q)
-
-module _ {A : Type 0} where
-  guarded : (b : Bool) (e : Refusal) (r : Result A Refusal) → number_of e ≢ 1 → r ≢ Err Unfit → guard b e r ≢ Err Unfit
-  guarded true e r h d q = let z : e ≡ Unfit = cc in other e h z
-  guarded false e r h d q = d q
-
-  fine : (a : A) → ◌≢◌ {A = Result A Refusal} (Ok a) (Err Unfit)
-  fine a q = let z : ◌≡◌ {A = ℕ} 0 1 = cc in omega arith
-
-  open_guard : (b : Bool) (e : Refusal) (r : Result A Refusal) → b ≡ false → guard b e r ≡ r
-  open_guard true e r h = absurd (mathlib.Core.Bool.true≢false h)
-  open_guard false e r h = refl
-
-onwards : {A B : Type 0} (r : Result A Refusal) (f : A → Result B Refusal) → r ≢ Err Unfit → ((a : A) → f a ≢ Err Unfit) → onward r f ≢ Err Unfit
-onwards (Ok a) f d h q = h a q
-onwards {A} {B} (Err e) f d h q = let z : e ≡ Unfit = cc in d (ap refusal z)
-  where
-    refusal : Refusal → Result A Refusal
-    refusal x = Err x
-
 eliminates : (m k : ℕ) (t : Grid) → eliminated m k t ≢ Err Unfit
 eliminates m zero t = guarded (beyond m t) TableTooLarge (Ok t) (λ q. omega arith) (fine t)
 eliminates m (suc k) t = onwards (eliminated m k t) (λ x. within_limit m (step m k x)) (eliminates m k t)
@@ -78,11 +55,6 @@ pub record Fitting (size n : ℕ) (u : Use) : Type 0 where
   pub lists : LongLists n u
   pub fits : unfit size u.sheet u.values u.relations u.constants ≡ false
   pub phase-fits : PhaseFits size u u.phase
-
--- the two halves of the test
-halves : (size : ℕ) (s : Sheet) (vs : List Coords) (rs : List Relation) (qs : List Coords) → unfit size s vs rs qs ≡ false
-    → (unfit_values size s.count s.d vs ≡ false) × (unfit_relations size s rs qs ≡ false)
-halves size s vs rs qs e = or_parts (unfit_values size s.count s.d vs) _ e
 
 each_relation : (size : ℕ) (s : Sheet) (rs : List Relation) (qs : List Coords) → unfit_relations size s rs qs ≡ false → (i : ℕ) → i < s.bound → bad_relation size s.count (relation_at rs i) (get_or qs i []) ≡ false
 each_relation size s rs qs e = any_false s.bound _ (or_parts (ltb (length rs) most_relations || ltb (length qs) most_relations) _ e).1
@@ -111,27 +83,28 @@ module _ (size n : ℕ) (t : Told) (u : Use) (S : Standing size n t u) (F : Fitt
   qs = u.constants
 
   values_fit : unfit_values size s.count s.d u.values ≡ false
-  values_fit = (halves size s u.values rs qs F.fits).0
+  values_fit = (or_parts (unfit_values size s.count s.d u.values) _ F.fits).0
 
   relations_fit : unfit_relations size s rs qs ≡ false
-  relations_fit = (halves size s u.values rs qs F.fits).1
+  relations_fit = (or_parts (unfit_values size s.count s.d u.values) _ F.fits).1
 
   abbrev Fine : Runs.Outcome → Type 0
   Fine o = Fitting size n o.then × (o.reply ≢ Err Unfit)
 
-  stays : (e : Refusal) → number_of e ≢ 1 → Fine (Runs.stays u e)
-  stays e h = (F, λ q. let z : e ≡ Unfit = cc in other e h z)
+  -- a call that is not open
+  closed-call : Fine (Runs.stays u NotOpen)
+  closed-call = (F, λ q. let z : ◌≡◌ {A = ℕ} 0 1 = cc in omega arith)
 
   freely : Fitting size n (Runs.Outcome.then (Runs.drops u))
   freely = record { lists = record { relations = F.lists.relations; constants = F.lists.constants; proposal = F.lists.proposal; working = F.lists.working; spare_list = F.lists.spare_list }; fits = F.fits; phase-fits = tt }
 
+  abbrev judged : Relation → Coords → Bool
+  judged r x = bad_relation size s.count r x
+
   -- ---- binding
   bind_fine : (cs : List ℤ) (q : Coords) → n ≤ length cs → (a : Result (Unit {0}) Refusal) → bind_answer size s u.values rs qs cs q ≡ a → Fine (rebound u (bind_by a s rs qs cs q))
-  bind_fine cs q long (Err k) e = (freely, λ z. let y : k ≡ Unfit = cc in never (e ∙ ap refusal y))
+  bind_fine cs q long (Err k) e = (freely, λ z. never (e ∙ same_refusal k Unfit z))
     where
-      refusal : Refusal → Result (Unit {0}) Refusal
-      refusal x = Err x
-
       test : (ltb (length cs) s.count || unfit size s u.values rs qs) ≡ false
       test = let c = S.count_is in or_from (ltb (length cs) s.count) _ (le-ltb _ _ (omega arith)) F.fits
 
@@ -142,11 +115,8 @@ module _ (size n : ℕ) (t : Told) (u : Use) (S : Standing size n t u) (F : Fitt
           (guarded (untrue size s.count s.d u.values (bond s.count cs q)) Untrue (Ok tt) (λ y. omega arith) (fine tt))))
           (sym (open_guard (ltb (length cs) s.count || unfit size s u.values rs qs) Unfit _ test) ∙ z)
   bind_fine cs q long (Ok x) e =
-      let a1 = passed (ltb (length cs) s.count || unfit size s u.values rs qs) Unfit _ x e in
-      let a3 = passed (leb 24 s.bound) Full _ x a1.1 in
-      let few = leb-false _ _ a3.0 in
-      let a4 = passed (not (any s.count (λ p. nonzero (at cs p))) || bad_coefs s.count cs) Coefficients _ x a3.1 in
-      let a5 = passed (bad_constant size q) Constant _ x a4.1 in (
+      let B = bindable size s u.values rs qs cs q x e in
+      let few = B.few in (
         record {
           lists = record {
             relations = subst (λ (k : ℕ). most_relations ≤ k) (sym (length-set rs s.bound (recorded s.count cs))) F.lists.relations;
@@ -159,15 +129,12 @@ module _ (size n : ℕ) (t : Told) (u : Use) (S : Standing size n t u) (F : Fitt
               (fit_relations size (record { count = s.count; bound = s.bound + 1; d = s.d }) (set rs s.bound (recorded s.count cs)) (set qs s.bound q)
               (subst (λ (k : ℕ). most_relations ≤ k) (sym (length-set rs s.bound (recorded s.count cs))) F.lists.relations)
               (subst (λ (k : ℕ). most_relations ≤ k) (sym (length-set qs s.bound q)) F.lists.constants)
-              (λ i l. ⊎_elim (older i) (λ h. newest few (or_parts (not (any s.count (λ p. nonzero (at cs p)))) _ a4.0).1 a5.0 i (omega arith)) (cases_lt i s.bound)));
+              (λ i l. ⊎_elim (older i) (λ h. newest few B.coefs B.constant i (omega arith)) (cases_lt i s.bound)));
           phase-fits = tt;
         },
         fine nothing,
       )
     where
-      judged : Relation → Coords → Bool
-      judged r x = bad_relation size s.count r x
-
       older : (i : ℕ) → i < s.bound → judged (relation_at (set rs s.bound (recorded s.count cs)) i) (get_or (set qs s.bound q) i []) ≡ false
       older i l =
           let o : i ≢ s.bound = omega arith in
@@ -183,24 +150,15 @@ module _ (size n : ℕ) (t : Told) (u : Use) (S : Standing size n t u) (F : Fitt
           (any_ext s.count _ _ (λ p l. ap (above 1000) (get_or-written s.count cs (replicate most_parameters (pos 0)) (pos 0) (omega arith) p l)) ∙ b) c
 
   -- ---- unbinding
-  within : (i : ℤ) (b : ℕ) → lt_z i (pos 0) ≡ false → lt_z i (pos b) ≡ true → nat_abs i < b
-  within i b lo hi = omega (arith, ints)
-
   unbind_fine : (i : ℤ) (a : Result (Unit {0}) Refusal) → unbind_answer size s u.values rs qs i ≡ a → Fine (rebound u (unbind_by a s rs qs (nat_abs i)))
-  unbind_fine i (Err k) e = (freely, λ z. let y : k ≡ Unfit = cc in never (e ∙ ap refusal y))
+  unbind_fine i (Err k) e = (freely, λ z. never (e ∙ same_refusal k Unfit z))
     where
-      refusal : Refusal → Result (Unit {0}) Refusal
-      refusal x = Err x
-
       never : unbind_answer size s u.values rs qs i ≢ Err Unfit
       never z = guarded (lt_z i (pos 0) || not (lt_z i (pos s.bound))) NoRelation (Ok tt) (λ y. omega arith) (fine tt)
           (sym (open_guard (unfit size s u.values rs qs) Unfit _ F.fits) ∙ z)
   unbind_fine i (Ok x) e =
-      let a1 = passed (unfit size s u.values rs qs) Unfit _ x e in
-      let a7 = passed (lt_z i (pos 0) || not (lt_z i (pos s.bound))) NoRelation _ x a1.1 in
-      let o = or_parts (lt_z i (pos 0)) _ a7.0 in
       let k = nat_abs i in
-      let lt = within i s.bound o.0 (not-false _ o.1) in
+      let lt = (unbindable size s u.values rs qs i x e).1 in
       let lr : s.bound ≤ length rs = omega (arith, S.few, F.lists.relations) in
       let lq : s.bound ≤ length qs = omega (arith, S.few, F.lists.constants) in
       let cr = subst (λ (k : ℕ). most_relations ≤ k) (sym (closed-length s.bound k rs none lt lr)) F.lists.relations in
@@ -217,9 +175,6 @@ module _ (size n : ℕ) (t : Told) (u : Use) (S : Standing size n t u) (F : Fitt
         },
         fine nothing,
       )
-    where
-      judged : Relation → Coords → Bool
-      judged r x = bad_relation size s.count r x
 
   -- ---- gripping
   abbrev slots : List ℕ
@@ -233,11 +188,8 @@ module _ (size n : ℕ) (t : Told) (u : Use) (S : Standing size n t u) (F : Fitt
       (or_from (ltb (length roles) s.count) _ (le-ltb _ _ (omega arith)) (le-ltb _ _ (omega (arith, F.lists.spare_list)))) F.fits
 
   grip_fine : (roles : List Role) → n ≤ length roles → (a : Result Workings Refusal) → grip_answer size s u.values rs qs roles slots ≡ a → Fine (held_by u a)
-  grip_fine roles long (Err k) e = (F, λ z. let y : k ≡ Unfit = cc in never (e ∙ ap refusal y))
+  grip_fine roles long (Err k) e = (F, λ z. never (e ∙ same_refusal k Unfit z))
     where
-      refusal : Refusal → Result Workings Refusal
-      refusal x = Err x
-
       ρ : List Role
       ρ = take s.count roles
 
@@ -284,18 +236,6 @@ module _ (size n : ℕ) (t : Told) (u : Use) (S : Standing size n t u) (F : Fitt
         (or_from (ltb (length wishes) s.count) _ (le-ltb _ _ (omega arith)) (le-ltb _ _ (omega (arith, F.lists.proposal)))) (le-ltb _ _ F.lists.working)) F.fits)
         (not_from_true _ (eq-eqb _ _ W.0))) (not_from_true _ (eq-eqb _ _ W.1))
 
-    -- no refusal with 1 in what is worked out
-    never_solved : (gs : List Coords) → solved size n t.roles (shares n t.roles) (counted n t.roles t.bound) w.table s.d u.values wishes gs ≢ Err Unfit
-    never_solved gs =
-        let m = length (counted n t.roles t.bound) in
-        let hs = divisors m w.table gs in
-        let ps = lowered m w.table hs in
-        let l = common m w.table ps in
-        let xs = multipliers size m w.table l ps (lowered_sums size m gs hs) in
-        let p = lowest size n (pos l *ℤ s.d) (numerators size n t.roles (shares n t.roles) (counted n t.roles t.bound) l s.d u.values wishes xs) in
-        guarded (too_fine size m w.table l (lowered_sums size m gs hs) xs) TooFine (settled size n p) (λ y. omega arith)
-        (guarded (lt_z (pos most_denominator) p.over) TooFine _ (λ y. omega arith) (guarded (bad_values size n p.over p.nums) OffSheet (Ok p) (λ y. omega arith) (fine p)))
-
     never : answer size n t u S w G wishes ≢ Err Unfit
     never =
         let m = length (counted n t.roles t.bound) in
@@ -303,23 +243,14 @@ module _ (size n : ℕ) (t : Told) (u : Use) (S : Standing size n t u) (F : Fitt
         let gs = carried size m w.table cs in
         guarded (far_wish size n t.roles wishes) WishTooFar _ (λ y. omega arith)
         (guarded (some_above most_residual size m cs) GapTooLarge _ (λ y. omega arith)
-        (guarded (contradicts size m w.table gs) Impossible _ (λ y. omega arith) (never_solved gs)))
-
-    zeros_long : (k : ℕ) → length (zeros k size) ≡ k
-    zeros_long k = tab-length k (λ p. tab size (λ c. pos 0))
+        (guarded (contradicts size m w.table gs) Impossible _ (λ y. omega arith)
+        (solved_refusals size n t.roles (counted n t.roles t.bound) w.table s.d u.values wishes gs Unfit (λ y. omega arith) (λ y. omega arith))))
 
     blank : working_places ≤ length (written working_places (zeros working_places size) u.working)
-    blank = let z = zeros_long working_places in subst (λ (k : ℕ). working_places ≤ k) (sym (length-written working_places (zeros working_places size) u.working (omega arith) F.lists.working)) F.lists.working
+    blank = let z = zeros-length working_places size in subst (λ (k : ℕ). working_places ≤ k) (sym (length-written working_places (zeros working_places size) u.working (omega arith) F.lists.working)) F.lists.working
 
     low_of : (e : ℤ) → pos 0 <ℤ e → lt_z e (pos 1) ≡ false
-    low_of e h = by (lt_z e (pos 1)) refl
-      where
-        clash : lt_z e (pos 1) ≡ true → ⊥
-        clash q = omega (arith, ints)
-
-        by : (b : Bool) → lt_z e (pos 1) ≡ b → b ≡ false
-        by true q = absurd (clash q)
-        by false q = refl
+    low_of e h = false_from_ne_true (lt_z e (pos 1)) (λ q. omega (arith, ints))
 
     pulled_fine : (a : Result Placing Refusal) → answer size n t u S w G wishes ≡ a → Fine (pulled_to u w (outcome size n t u S w G wishes false a))
     pulled_fine (Err k) e = (
@@ -327,18 +258,15 @@ module _ (size n : ℕ) (t : Told) (u : Use) (S : Standing size n t u) (F : Fitt
         lists = record {
           relations = F.lists.relations;
           constants = F.lists.constants;
-          proposal = let z = zeros_long n in subst (λ (k : ℕ). n ≤ k) (sym (length-written n (zeros n size) u.proposal (omega arith) F.lists.proposal)) F.lists.proposal;
+          proposal = let z = zeros-length n size in subst (λ (k : ℕ). n ≤ k) (sym (length-written n (zeros n size) u.proposal (omega arith) F.lists.proposal)) F.lists.proposal;
           working = blank;
           spare_list = F.lists.spare_list;
         };
         fits = F.fits;
         phase-fits = W;
       },
-      λ z. let y : k ≡ Unfit = cc in never (e ∙ ap refusal y),
+      λ z. never (e ∙ same_refusal k Unfit z),
     )
-      where
-        refusal : Refusal → Result Placing Refusal
-        refusal x = Err x
     pulled_fine (Ok q) e =
         let A = is_accepted size n t u S w G wishes q e in
         let z = A.meets_all.shaped.values in
@@ -362,11 +290,20 @@ module _ (size n : ℕ) (t : Told) (u : Use) (S : Standing size n t u) (F : Fitt
 
   -- ---- keeping
   keep_fine : (e : ℤ) → unfit_values size s.count e u.proposal ≡ false → Fine (Runs.keeps size u e)
-  keep_fine e h = by (unfit size s u.values rs qs || unfit_values size s.count e u.proposal) (or_from (unfit size s u.values rs qs) _ F.fits h)
+  keep_fine e h = subst (λ (k : Result Sheet Refusal × List Coords). Fine (freed u k.0 k.1)) (sym (cond-false (unfit size s u.values rs qs || unfit_values size s.count e u.proposal) _ _ (or_from (unfit size s u.values rs qs) _ F.fits h))) (
+    record {
+      lists = record { relations = F.lists.relations; constants = F.lists.constants; proposal = F.lists.proposal; working = F.lists.working; spare_list = F.lists.spare_list };
+      fits = or_from (unfit_values size s.count e (written s.count u.proposal u.values)) _
+          (fit_new_values size s.count e (written s.count u.proposal u.values)
+          (subst (λ (k : ℕ). s.count ≤ k) (sym (length-written s.count u.proposal u.values enough room)) room)
+          (or_parts (ltb (length u.proposal) s.count) _ parts.0).1
+          (same-values size s.count e (written s.count u.proposal u.values) u.proposal (λ p l. get_or-written s.count u.proposal u.values [] enough p l) ∙ parts.1))
+          relations_fit;
+      phase-fits = tt;
+    },
+    fine nothing,
+  )
     where
-      kept : Bool → Result Sheet Refusal × List Coords
-      kept b = cond b (Err Unfit, u.values) (Ok (record { count = s.count; bound = s.bound; d = e }), written s.count u.proposal u.values)
-
       parts : (ltb (length u.proposal) s.count || bad_denominator e ≡ false) × (bad_values size s.count e u.proposal ≡ false)
       parts = or_parts (ltb (length u.proposal) s.count || bad_denominator e) _ h
 
@@ -376,39 +313,23 @@ module _ (size n : ℕ) (t : Told) (u : Use) (S : Standing size n t u) (F : Fitt
       room : s.count ≤ length u.values
       room = (fit_values size s.count s.d u.values values_fit).long
 
-      by : (b : Bool) → b ≡ false → Fine (freed u (kept b).0 (kept b).1)
-      by true q = absurd (mathlib.Core.Bool.true≢false q)
-      by false q = (
-        record {
-          lists = record { relations = F.lists.relations; constants = F.lists.constants; proposal = F.lists.proposal; working = F.lists.working; spare_list = F.lists.spare_list };
-          fits = or_from (unfit_values size s.count e (written s.count u.proposal u.values)) _
-              (fit_new_values size s.count e (written s.count u.proposal u.values)
-              (subst (λ (k : ℕ). s.count ≤ k) (sym (length-written s.count u.proposal u.values enough room)) room)
-              (or_parts (ltb (length u.proposal) s.count) _ parts.0).1
-              (same-values size s.count e (written s.count u.proposal u.values) u.proposal (λ p l. get_or-written s.count u.proposal u.values [] enough p l) ∙ parts.1))
-              relations_fit;
-          phase-fits = tt;
-        },
-        fine nothing,
-      )
-
   -- ---- any call, in any phase
   next_fine : (p : Phase) → PhaseStands size n t u.proposal p → PhaseFits size u p → (k : Call) → LongCall n k → Fine (in_turn size u p k)
   next_fine free P Q (bind cs q) l = bind_fine cs q l (bind_answer size s u.values rs qs cs q) refl
   next_fine free P Q (unbind i) l = unbind_fine i (unbind_answer size s u.values rs qs i) refl
   next_fine free P Q (grip roles) l = grip_fine roles l (grip_answer size s u.values rs qs roles slots) refl
-  next_fine free P Q (pull wishes) l = stays NotOpen (λ y. omega arith)
-  next_fine free P Q keep l = stays NotOpen (λ y. omega arith)
-  next_fine free P Q drop_grip l = stays NotOpen (λ y. omega arith)
-  next_fine (gripped w) P Q (bind cs q) l = stays NotOpen (λ y. omega arith)
-  next_fine (gripped w) P Q (unbind i) l = stays NotOpen (λ y. omega arith)
-  next_fine (gripped w) P Q (grip roles) l = stays NotOpen (λ y. omega arith)
+  next_fine free P Q (pull wishes) l = closed-call
+  next_fine free P Q keep l = closed-call
+  next_fine free P Q drop_grip l = closed-call
+  next_fine (gripped w) P Q (bind cs q) l = closed-call
+  next_fine (gripped w) P Q (unbind i) l = closed-call
+  next_fine (gripped w) P Q (grip roles) l = closed-call
   next_fine (gripped w) P Q (pull wishes) l = pull_fine w P Q wishes l
-  next_fine (gripped w) P Q keep l = stays NotOpen (λ y. omega arith)
+  next_fine (gripped w) P Q keep l = closed-call
   next_fine (gripped w) P Q drop_grip l = (freely, fine nothing)
-  next_fine (proposing w e) P Q (bind cs q) l = stays NotOpen (λ y. omega arith)
-  next_fine (proposing w e) P Q (unbind i) l = stays NotOpen (λ y. omega arith)
-  next_fine (proposing w e) P Q (grip roles) l = stays NotOpen (λ y. omega arith)
+  next_fine (proposing w e) P Q (bind cs q) l = closed-call
+  next_fine (proposing w e) P Q (unbind i) l = closed-call
+  next_fine (proposing w e) P Q (grip roles) l = closed-call
   next_fine (proposing w e) P Q (pull wishes) l = pull_fine w P.0 Q.0 wishes l
   next_fine (proposing w e) P Q keep l = keep_fine e Q.1
   next_fine (proposing w e) P Q drop_grip l = (freely, fine nothing)
@@ -432,42 +353,20 @@ fits_on size n t u S F (e ∷ h) m l =
 -- ---- an opening
 opened-fits : (size n : ℕ) (values : List Coords) (s : Sheet) → (opening size n values).0 ≡ Ok s → (rs : List Relation) (qs proposal working : List Coords) (places : ℕ)
     → LongLists n (opened s (opening size n values).1 rs qs proposal working places) → Fitting size n (opened s (opening size n values).1 rs qs proposal working places)
-opened-fits size n values s e rs qs proposal working places long = by (ltb (length values) (min n most_parameters)) (ltb n 1 || ltb most_parameters n) refl refl e
+opened-fits size n values s e rs qs proposal working places long =
+    on_opened size n values s e (λ x vs. Fitting size n (opened x vs rs qs proposal working places)) (λ few room.
+    let enough : n ≤ length (zeros n size) = let z = zeros-length n size in omega arith in
+    record {
+      lists = record { relations = long.relations; constants = long.constants; proposal = long.proposal; working = long.working; spare_list = long.spare_list };
+      fits = or_from (unfit_values size n (pos 1) (written n (zeros n size) values)) _
+          (fit_new_values size n (pos 1) (written n (zeros n size) values) (subst (λ (k : ℕ). n ≤ k) (sym (length-written n (zeros n size) values enough room)) room) refl
+          (same-values size n (pos 1) (written n (zeros n size) values) (zeros n size) (λ p l. get_or-written n (zeros n size) values [] enough p l) ∙ inside))
+          (fit_relations size (record { count = n; bound = 0; d = pos 1 }) rs qs long.relations long.constants (λ i l. absurd (not-suc-le-zero l)));
+      phase-fits = tt;
+    })
   where
-    new : Sheet
-    new = record { count = n; bound = 0; d = pos 1 }
-
-    outcome_of : Bool → Bool → Result Sheet Refusal × List Coords
-    outcome_of a b = cond a (Err Unfit, values) (cond b (Err Count, values) (Ok new, written n (zeros n size) values))
-
-    zeros_long : length (zeros n size) ≡ n
-    zeros_long = tab-length n (λ p. tab size (λ c. pos 0))
-
     inside : bad_values size n (pos 1) (zeros n size) ≡ false
     inside = none_any n _ (λ p l. none_any size _ (λ c b. ap (above 47560) (coord-grid n size (λ p c. pos 0) p l c b)))
-
-    fresh : ltb (length values) (min n most_parameters) ≡ false → (ltb n 1 || ltb most_parameters n) ≡ false → Fitting size n (opened new (written n (zeros n size) values) rs qs proposal working places)
-    fresh a b =
-        let z = zeros_long in
-        let c : min n most_parameters ≤ length values = ltb-false _ _ a in
-        let d : n ≤ 48 = ltb-false _ _ (or_parts (ltb n 1) _ b).1 in
-        let m = min-eq_left d in
-        let room : n ≤ length values = omega arith in
-        let enough : n ≤ length (zeros n size) = omega arith in
-        record {
-          lists = record { relations = long.relations; constants = long.constants; proposal = long.proposal; working = long.working; spare_list = long.spare_list };
-          fits = or_from (unfit_values size n (pos 1) (written n (zeros n size) values)) _
-              (fit_new_values size n (pos 1) (written n (zeros n size) values) (subst (λ (k : ℕ). n ≤ k) (sym (length-written n (zeros n size) values enough room)) room) refl
-              (same-values size n (pos 1) (written n (zeros n size) values) (zeros n size) (λ p l. get_or-written n (zeros n size) values [] enough p l) ∙ inside))
-              (fit_relations size new rs qs long.relations long.constants (λ i l. absurd (not-suc-le-zero l)));
-          phase-fits = tt;
-        }
-
-    by : (a b : Bool) → ltb (length values) (min n most_parameters) ≡ a → (ltb n 1 || ltb most_parameters n) ≡ b → (outcome_of a b).0 ≡ Ok s
-        → Fitting size n (opened s (outcome_of a b).1 rs qs proposal working places)
-    by true b p q h = absurd (not_accepted Unfit s h)
-    by false true p q h = absurd (not_accepted Count s h)
-    by false false p q h = let same : new ≡ s = cc in subst (λ (x : Sheet). Fitting size n (opened x (written n (zeros n size) values) rs qs proposal working places)) same (fresh p q)
 
 pub fits_always : FitsAlways
 fits_always size n values s e rs qs proposal working places long h m l =

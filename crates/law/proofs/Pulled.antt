@@ -1,26 +1,24 @@
 -- A pull with the workings of a grip on the sheet, by what stands where its lists fit.
-use Rattle.std.proofs.Common.{◌≡◌, ℕ, ◌<◌, ◌≤◌, Bool, true, false, cond, not, ◌||◌, eqb, ltb, List, [], length, get_or, Ok, Err, refl, ap, ◌∙◌, subst, arith}
+use Rattle.std.proofs.Common.{◌≡◌, ℕ, ◌<◌, ◌≤◌, false, List, [], length, get_or, Ok, refl, ap, ◌∙◌, subst, arith}
 use borrow.Author.Differences.{ints}
 use Rattle.std.proofs.lemmas.List.{length-take-le, get_or-take}
-use Rattle.std.proofs.lemmas.Bool.{or_parts}
+use Rattle.std.proofs.lemmas.Bool.{cond_both, cond-false, or_parts}
 use Rattle.linear.proofs.Outcomes.{not_accepted}
 use Rattle.records.specs.declared.refusal.Refusal.TheVariants.{Unfit}
 use Rattle.records.specs.declared.relation.Relation.{Relation}
 use Rattle.records.specs.declared.role.Role.{Role}
-use Rattle.rules.specs.Limits.{most_relations, working_places}
+use Rattle.rules.specs.Limits.{most_relations}
 use Rattle.rules.specs.Values.{Coords}
 use Rattle.rules.specs.Sheets.{Sheet, bonds, Workings, unfit_values, unfit}
-use Rattle.rules.specs.Gripping.{counted}
-use Rattle.rules.specs.Pulling.{proposed}
 use Rattle.rules.specs.Calls as Calls
 use Rattle.rules.specs.Calls.{grip_on, pull_by, unfit_pull, pulling}
 use Rattle.rules.specs.Runs.{Use, gripped, told}
+use Rattle.rules.proofs.Accepted.{pullable}
 use Rattle.rules.proofs.Fit.{fit_values}
-use Rattle.rules.proofs.Roles.{good-weights}
 use Rattle.law.specs.Placings.{Shaped, AllHold}
 use Rattle.law.specs.Facts.{values_of, told_by, PulledRightly, PullsRightly}
 use Rattle.law.specs.Standing.{GrippedWell, Standing}
-use Rattle.law.proofs.Facts.{gripped_on}
+use Rattle.law.proofs.Facts.{gripped_on, gripped-well}
 use Rattle.law.proofs.Pulls.{pull_stands}
 
 module _ (size : ℕ) (s : Sheet) (vs : List Coords) (rs : List Relation) (qs : List Coords) (w : Workings) (wishes proposal working : List Coords)
@@ -43,27 +41,18 @@ module _ (size : ℕ) (s : Sheet) (vs : List Coords) (rs : List Relation) (qs : 
         coordinates = λ i l. ap (λ (x : Coords). length x) (get_or-take n vs i [] l) ∙ sized i (omega arith);
       }
 
-  fits : unfit_pull size s vs rs qs w wishes proposal working ≡ false → unfit size s vs rs qs ≡ false
-  fits e =
-      let a = or_parts (ltb (length wishes) n || ltb (length proposal) n || ltb (length working) working_places || unfit size s vs rs qs || not (eqb w.count n)) _ e in
-      let b = or_parts (ltb (length wishes) n || ltb (length proposal) n || ltb (length working) working_places || unfit size s vs rs qs) _ a.0 in
-      (or_parts (ltb (length wishes) n || ltb (length proposal) n || ltb (length working) working_places) _ b.0).1
-
-  abbrev outcome : Bool → Calls.Pulled
-  outcome b = cond b (Err Unfit, proposal, working) (pull_by size n proposal working (proposed size n w.roles w.shares (counted n w.roles (bonds s rs qs)) w.table s.d vs wishes))
-
   module _ (roles : List Role) (g : grip_on n roles (bonds s rs qs) ≡ Ok w) (holds : AllHold size n (bonds s rs qs) (values_of s vs)) where
     well : GrippedWell n (bonds s rs qs) roles w
-    well = let W = gripped_on n roles (bonds s rs qs) w g in record { roles_are = W.roles_are; weights = good-weights n roles W.good; shares_are = W.shares_are; means = W.means }
+    well = gripped-well n roles (bonds s rs qs) w (gripped_on n roles (bonds s rs qs) w g)
 
     stands : unfit size s vs rs qs ≡ false → Standing size n (told_by s vs rs qs roles) u
     stands e = record { count_is = refl; few = few; bound_is = refl; over_is = refl; values_are = refl; shaped = shaped e; holds = holds; phase_is = well }
 
-  by : (b : Bool) → unfit_pull size s vs rs qs w wishes proposal working ≡ b → let P = outcome b in PulledRightly size s vs rs qs w wishes (told n P.1 P.0)
-  by true e roles g holds = ((λ d1 d11 d12 d19. absurd (d1 refl)), λ x h. absurd (not_accepted Unfit x h))
-  by false e roles g holds = subst (λ (b : Bool). let P = outcome b in Rattle.law.specs.Law.LawfulReply size n (told_by s vs rs qs roles) (Rattle.rules.specs.Runs.pull wishes) (told n P.1 P.0)) e
-      (pull_stands size n (told_by s vs rs qs roles) u (stands roles g holds (fits e)) w (well roles g holds) wishes).1
+  by_fit : let P = pulling size s vs rs qs w wishes proposal working in PulledRightly size s vs rs qs w wishes (told n P.1 P.0)
+  by_fit = cond_both (unfit_pull size s vs rs qs w wishes proposal working) _ _ (λ (P : Calls.Pulled). PulledRightly size s vs rs qs w wishes (told n P.1 P.0))
+      (λ e roles g holds. ((λ d1 d11 d12 d19. absurd (d1 refl)), λ x h. absurd (not_accepted Unfit x h)))
+      (λ e roles g holds. subst (λ (P : Calls.Pulled). Rattle.law.specs.Law.LawfulReply size n (told_by s vs rs qs roles) (Rattle.rules.specs.Runs.pull wishes) (told n P.1 P.0)) (cond-false (unfit_pull size s vs rs qs w wishes proposal working) _ _ e)
+      (pull_stands size n (told_by s vs rs qs roles) u (stands roles g holds (pullable size s vs rs qs w wishes proposal working e).1) w (well roles g holds) wishes).1)
 
 pub pulls_rightly : PullsRightly
-pulls_rightly size s vs rs qs w wishes proposal working few sized =
-    by size s vs rs qs w wishes proposal working few sized (unfit_pull size s vs rs qs w wishes proposal working) refl
+pulls_rightly = by_fit

@@ -1,6 +1,6 @@
 -- One pull on a sheet in use: what stands after it, and that its reply is lawful.
-use Rattle.std.proofs.Common.{◌≡◌, ℕ, ◌<◌, Bool, true, false, cond, ◌≢◌, List, [], get_or, take, pos, ◌<ℤ◌, Ok, Err, Result, sym, refl, ap, ◌∙◌, subst, arith}
-use Rattle.std.proofs.lemmas.List.{get_or-take, take_all}
+use Rattle.std.proofs.Common.{◌≡◌, ℕ, ◌<◌, Bool, true, false, cond, ◌≢◌, List, [], get_or, take, pos, ◌<ℤ◌, Ok, Err, Result, sym, refl, ap, ◌∙◌, subst}
+use Rattle.std.proofs.lemmas.List.{get_or-take}
 use Rattle.whole.specs.Lists.{coord}
 use Rattle.linear.proofs.Outcomes.{not_accepted}
 use Rattle.records.specs.declared.refusal.Refusal.{Refusal}
@@ -12,21 +12,16 @@ use Rattle.rules.specs.Pulling.{Placing, proposed}
 use Rattle.rules.specs.Calls as Calls
 use Rattle.rules.specs.Calls.{pull_by, unfit_pull, pulling}
 use Rattle.rules.specs.Runs.{Use, pull, Given, placing, Reply, told, pulled_to}
-use Rattle.rules.proofs.Bonds.{take-written}
+use Rattle.rules.proofs.Bonds.{take-written_all}
 use Rattle.law.specs.Histories.{Told, tell}
 use Rattle.law.specs.Law.{RefusedRightly, ProposesNearest}
 use Rattle.law.specs.Standing.{GrippedWell, Standing}
+use Rattle.law.proofs.Refusals.{same_refusal}
 use Rattle.law.proofs.Solved.{Accepted, refused-13, none-13, accepted-answer}
 
 -- the sheet's coordinates are the kept ones
 pub kept-nums : (size n : ℕ) (t : Told) (u : Use) → Standing size n t u → (s : ℕ) → s < n → (c : ℕ) → c < size → coord u.values s c ≡ coord t.kept.nums s c
 kept-nums size n t u S s l c b = ap (λ (x : Coords). get_or x c (pos 0)) (sym (get_or-take n u.values s [] l)) ∙ ap (λ (xs : List Coords). coord xs s c) S.values_are
-
-same_refusal : {A B : Type 0} (j k : Refusal) → ◌≡◌ {A = Result A Refusal} (Err j) (Err k) → ◌≡◌ {A = Result B Refusal} (Err j) (Err k)
-same_refusal {A} {B} j k e = let q : j ≡ k = cc in ap refusal q
-  where
-    refusal : Refusal → Result B Refusal
-    refusal x = Err x
 
 module _ (size n : ℕ) (t : Told) (u : Use) (S : Standing size n t u) (w : Workings) (G : GrippedWell n t.bound t.roles w) (wishes : List Coords) where
   pub d>0 : pos 0 <ℤ u.sheet.d
@@ -60,11 +55,6 @@ module _ (size n : ℕ) (t : Told) (u : Use) (S : Standing size n t u) (w : Work
   refused_stands : (k : Refusal) (proposal working : List Coords) → Standing size n t (pulled_to u w (Err k, proposal, working)).then
   refused_stands k proposal working = record { count_is = S.count_is; few = S.few; bound_is = S.bound_is; over_is = S.over_is; values_are = S.values_are; shaped = S.shaped; holds = S.holds; phase_is = G }
 
-  written_out : (q : Placing) → AcceptedHere q → take n (written n q.nums u.proposal) ≡ q.nums
-  written_out q A =
-      let e = A.meets_all.shaped.values in
-      take-written n q.nums u.proposal (omega arith) ∙ take_all n q.nums (omega arith)
-
   settle : (a : Result Placing Refusal) → answer ≡ a → After n (outcome false a)
   settle (Err k) e = (
     refused_stands k (outcome false (Err k)).1 (outcome false (Err k)).2,
@@ -79,7 +69,7 @@ module _ (size n : ℕ) (t : Told) (u : Use) (S : Standing size n t u) (w : Work
   settle (Ok q) e =
       let A = is_accepted q e in
       let shown : Placing = record { over = q.over; nums = take n (written n q.nums u.proposal) } in
-      let same : shown ≡ q = ap (λ (x : List Coords). record { over = q.over; nums = x }) (written_out q A) in
+      let same : shown ≡ q = ap (λ (x : List Coords). record { over = q.over; nums = x }) (take-written_all n q.nums u.proposal A.meets_all.shaped.values) in
       let back : q ≡ shown = sym same in (
         record {
           count_is = S.count_is;

@@ -1,61 +1,32 @@
 -- The law for runs, by induction over the history.
-use Rattle.std.proofs.Common.{◌≡◌, ℕ, min, Bool, true, false, cond, ◌||◌, ltb, List, [], ◌∷◌, ◌++◌, length, take, pos, ◌<ℤ◌, Ok, Err, Result, sym, refl, ap, ◌∙◌, subst, not-suc-le-zero, arith}
+use Rattle.std.proofs.Common.{◌≡◌, ℕ, List, [], ◌∷◌, take, pos, sym, refl, ap, ◌∙◌, subst, not-suc-le-zero, arith}
 use borrow.Author.Differences.{ints}
-use Rattle.std.proofs.lemmas.List.{take_all}
-use Rattle.whole.specs.Lists.{tab}
-use Rattle.whole.proofs.Lists.{tab-length, get_or-tab}
-use Rattle.linear.proofs.Outcomes.{not_accepted}
-use Rattle.records.specs.declared.refusal.Refusal.{Refusal}
-use Rattle.records.specs.declared.refusal.Refusal.TheVariants.{Unfit, Count}
-use Rattle.rules.specs.Limits.{most_parameters}
-use Rattle.rules.specs.Values.{Coords, zeros, written}
-use Rattle.rules.specs.Sheets.{Sheet}
+use Rattle.rules.specs.Values.{Coords, zeros}
 use Rattle.rules.specs.Pulling.{Placing}
 use Rattle.rules.specs.Calls.{opening}
 use Rattle.rules.specs.Runs.{Use, step, opened}
-use Rattle.rules.proofs.Bonds.{take-written}
-use Rattle.law.specs.Histories.{Entry, Told, at_opening, tell, told_from}
+use Rattle.rules.proofs.Accepted.{on_opened}
+use Rattle.rules.proofs.Bonds.{take-written_all, zeros-length}
+use Rattle.law.specs.Histories.{Entry, Told, at_opening, tell}
 use Rattle.law.specs.Placings.{Shaped, Same, AllHold}
-use Rattle.law.specs.Law.{shown, KeptAndHeld, LawfulEntry, LawfulFrom, Made, LawForRuns}
+use Rattle.law.specs.Law.{shown, KeptAndHeld, LawfulFrom, Made, LawForRuns}
 use Rattle.law.specs.Standing.{Standing, StandsOpened, StandsOn}
+use Rattle.law.proofs.Solved.{grid-shaped}
 use Rattle.law.proofs.Steps.{next}
 
 -- ---- an opening
 pub stands_opened : StandsOpened
-stands_opened size n values s e rs qs proposal working places = by (ltb (length values) (min n most_parameters)) (ltb n 1 || ltb most_parameters n) e
-  where
-    new : Sheet
-    new = record { count = n; bound = 0; d = pos 1 }
-
-    outcome : Bool → Bool → Result Sheet Refusal × List Coords
-    outcome a b = cond a (Err Unfit, values) (cond b (Err Count, values) (Ok new, written n (zeros n size) values))
-
-    one : pos 0 <ℤ pos 1
-    one = omega (arith, ints)
-
-    long : length (zeros n size) ≡ n
-    long = tab-length n (λ p. tab size (λ c. pos 0))
-
-    fresh : Standing size n (at_opening size n) (opened new (written n (zeros n size) values) rs qs proposal working places)
-    fresh = record {
+stands_opened size n values s e rs qs proposal working places =
+    on_opened size n values s e (λ x vs. Standing size n (at_opening size n) (opened x vs rs qs proposal working places)) (λ few room. record {
       count_is = refl;
       few = omega arith;
       bound_is = refl;
       over_is = refl;
-      values_are = let z = long in take-written n (zeros n size) values (omega arith) ∙ take_all n (zeros n size) (omega arith);
-      shaped = record {
-        above = one;
-        values = long;
-        coordinates = λ p l. ap (λ (x : Coords). length x) (get_or-tab n (λ p. tab size (λ c. pos 0)) [] p l) ∙ tab-length size (λ c. pos 0);
-      };
+      values_are = take-written_all n (zeros n size) values (zeros-length n size);
+      shaped = grid-shaped size n (pos 1) (λ p c. pos 0) (omega (arith, ints));
       holds = λ i l. absurd (not-suc-le-zero l);
       phase_is = tt;
-    }
-
-    by : (a b : Bool) → (outcome a b).0 ≡ Ok s → Standing size n (at_opening size n) (opened s (outcome a b).1 rs qs proposal working places)
-    by true b h = absurd (not_accepted Unfit s h)
-    by false true h = absurd (not_accepted Count s h)
-    by false false h = let same : new ≡ s = cc in subst (λ (x : Sheet). Standing size n (at_opening size n) (opened x (written n (zeros n size) values) rs qs proposal working places)) same fresh
+    })
 
 -- ---- what stands makes an entry's values the kept ones
 shown_is : (size n : ℕ) (t : Told) (u : Use) → Standing size n t u → (e : Entry) → e.values ≡ u.values → e.d ≡ u.sheet.d → KeptAndHeld size n t e
@@ -84,12 +55,3 @@ lawful_from size n t u S (e ∷ h) m =
 pub law : LawForRuns
 law size n values s e rs qs proposal working places h m =
     lawful_from size n (at_opening size n) (opened s (opening size n values).1 rs qs proposal working places) (stands_opened size n values s e rs qs proposal working places) h m
-
--- ---- one entry more at the end
-pub told_more : (n : ℕ) (t : Told) (h : List Entry) (e : Entry) → told_from n t (h ++ (e ∷ [])) ≡ tell n (told_from n t h) e.call e.reply
-told_more n t [] e = refl
-told_more n t (x ∷ h) e = told_more n (tell n t x.call x.reply) h e
-
-pub lawful_more : (size n : ℕ) (t : Told) (h : List Entry) (e : Entry) → LawfulFrom size n t h → LawfulEntry size n (told_from n t h) e → LawfulFrom size n t (h ++ (e ∷ []))
-lawful_more size n t [] e l new = (new, tt)
-lawful_more size n t (x ∷ h) e l new = (l.0, lawful_more size n (tell n t x.call x.reply) h e l.1 new)

@@ -15,6 +15,7 @@ use Rattle.linear.proofs.Outcomes.{passed, refused_by, not_by}
 use Rattle.linear.proofs.Solving.{infeasible, placed-meets}
 use Rattle.linear.proofs.Nearest.{nearest}
 use Rattle.linear.proofs.Lowest as Reduced
+use Rattle.records.specs.Numbers.{number_of}
 use Rattle.records.specs.Outcomes.{guard}
 use Rattle.records.specs.declared.refusal.Refusal.{Refusal}
 use Rattle.records.specs.declared.refusal.Refusal.TheVariants.{WishTooFar, GapTooLarge, Impossible, TooFine, OffSheet}
@@ -29,14 +30,24 @@ use Rattle.law.proofs.Divided as Divided
 use Rattle.law.proofs.Divided.{coord-grid, over-exact, coord-exact, h-above}
 use Rattle.law.proofs.Multipliers as Multipliers
 use Rattle.law.proofs.Multipliers.{hs, l, xs, l_above, loud}
+use Rattle.law.proofs.Refusals.{fine, later, guarded}
 use Rattle.law.proofs.Offers.{V, W, base, lack, carried_is, numerators_are, weighted, shares-≥0, meets_there, agrees_there, meets_here, nearer_here}
 
-grid-shaped : (size n : ℕ) (e : ℤ) (f : ℕ → ℕ → ℤ) → pos 0 <ℤ e → Shaped size n (record { over = e; nums = grid n size f })
+pub grid-shaped : (size n : ℕ) (e : ℤ) (f : ℕ → ℕ → ℤ) → pos 0 <ℤ e → Shaped size n (record { over = e; nums = grid n size f })
 grid-shaped size n e f h = record {
   above = h;
   values = tab-length n (λ s. tab size (f s));
   coordinates = λ s u. ap (λ (x : Coords). length x) (get_or-tab n (λ s. tab size (f s)) [] s u) ∙ tab-length size (f s);
 }
+
+-- what follows 13 is refused with 14 or 15 alone
+pub solved_refusals : (size n : ℕ) (roles : List Role) (bs : List Bond) (t : Grid) (d : ℤ) (values wishes gs : List Coords) (e : Refusal) → 14 ≢ number_of e → 15 ≢ number_of e
+    → solved size n roles (shares n roles) bs t d values wishes gs ≢ Err e
+solved_refusals size n roles bs t d values wishes gs e fourteen fifteen =
+    let m = length bs in
+    let p = lowest size n (pos (l size m t gs) *ℤ d) (numerators size n roles (shares n roles) bs (l size m t gs) d values wishes (xs size m t gs)) in
+    guarded (too_fine size m t (l size m t gs) (lowered_sums size m gs (hs size m t gs)) (xs size m t gs)) TooFine (settled size n p) fourteen
+    (guarded (lt_z (pos most_denominator) p.over) TooFine _ fourteen (guarded (bad_values size n p.over p.nums) OffSheet (Ok p) fifteen (fine p)))
 
 module _ (size n : ℕ) (roles : List Role) (bs : List Bond) (t : Grid) (d : ℤ) (values wishes : List Coords) (kept : Placing)
     (weights : (s : ℕ) → s < n → bad_weight (role roles s) ≡ false)
@@ -154,36 +165,12 @@ module _ (size n : ℕ) (roles : List Role) (bs : List Bond) (t : Grid) (d : ℤ
         same h a b = let w : p ≡ q = cc in (w, subst (λ (x : Placing). lt_z (pos most_denominator) x.over ≡ false) w a, subst (λ (x : Placing). bad_values size n x.over x.nums ≡ false) w b)
 
   -- ---- the whole answer
-  -- what follows 13 does not give 13
-  never-13 : rest ≡ Err Impossible → ⊥
-  never-13 h = ⊎_elim (λ a. fine a.1) (λ a. ⊎_elim (λ b. fine b.1) (λ b. ⊎_elim (λ c. off c.1) (λ c. ok c.1)
-      (refused_by (bad_values size n q.over q.nums) OffSheet (Ok q) Impossible b.1))
-      (refused_by (lt_z (pos most_denominator) q.over) TooFine (guard (bad_values size n q.over q.nums) OffSheet (Ok q)) Impossible a.1))
-      (refused_by (too_fine size m t (l size m t gs) (lowered_sums size m gs (hs size m t gs)) (xs size m t gs)) TooFine (settled size n q) Impossible h)
-    where
-      q : Placing
-      q = lowest size n (pos (l size m t gs) *ℤ d) (numerators size n roles (shares n roles) rs (l size m t gs) d values wishes (xs size m t gs))
-
-      fine : TooFine ≡ Impossible → ⊥
-      fine e = let z : ◌≡◌ {A = ℕ} 0 1 = cc in omega arith
-
-      off : OffSheet ≡ Impossible → ⊥
-      off e = let z : ◌≡◌ {A = ℕ} 0 1 = cc in omega arith
-
-      ok : ◌≡◌ {A = Result Placing Refusal} (Ok q) (Err Impossible) → ⊥
-      ok e = let z : ◌≡◌ {A = ℕ} 0 1 = cc in omega arith
-
   pub refused-13 : answer ≡ Err Impossible → (z : Placing) → ¬ (MeetsThese z)
-  refused-13 h = ⊎_elim (λ a. absurd (far a.1)) (λ a. ⊎_elim (λ b. absurd (large b.1)) (λ b. ⊎_elim (λ c. thirteen c.0) (λ c. absurd (never-13 c.1))
-      (refused_by (contradicts size m t gs) Impossible rest Impossible b.1))
-      (refused_by (some_above most_residual size m cs) GapTooLarge (guard (contradicts size m t gs) Impossible rest) Impossible a.1))
-      (refused_by (far_wish size n roles wishes) WishTooFar (guard (some_above most_residual size m cs) GapTooLarge (guard (contradicts size m t gs) Impossible rest)) Impossible h)
-    where
-      far : WishTooFar ≡ Impossible → ⊥
-      far e = let z : ◌≡◌ {A = ℕ} 0 1 = cc in omega arith
-
-      large : GapTooLarge ≡ Impossible → ⊥
-      large e = let z : ◌≡◌ {A = ℕ} 0 1 = cc in omega arith
+  refused-13 h =
+      let a = later (far_wish size n roles wishes) WishTooFar Impossible (guard (some_above most_residual size m cs) GapTooLarge (guard (contradicts size m t gs) Impossible rest)) (λ y. omega arith) h in
+      let b = later (some_above most_residual size m cs) GapTooLarge Impossible (guard (contradicts size m t gs) Impossible rest) (λ y. omega arith) a in
+      ⊎_elim (λ c. thirteen c.0) (λ c. absurd (solved_refusals size n roles rs t d values wishes gs Impossible (λ y. omega arith) (λ y. omega arith) c.1))
+      (refused_by (contradicts size m t gs) Impossible rest Impossible b)
 
   pub none-13 : answer ≢ Err WishTooFar → answer ≢ Err GapTooLarge → ((z : Placing) → ¬ (MeetsThese z)) → answer ≡ Err Impossible
   none-13 d11 d12 none =

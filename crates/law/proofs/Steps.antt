@@ -1,34 +1,31 @@
 -- Each call keeps what stands between the sheet in use and what its history told.
-use Rattle.std.proofs.Common.{◌≡◌, ℕ, ◌+◌, ◌<◌, ◌≤◌, Bool, true, false, cond, not, ◌||◌, ltb, leb, List, [], ◌∷◌, ◌++◌, length, take, replicate, ℤ, pos, ◌*ℤ◌, nat_abs, Ok, Err, Result, sym, refl, ap, ◌∙◌, subst, ⊎_elim, arith}
-use lib.Signed.{lt_z}
-use borrow.Author.Differences.{ints}
+use Rattle.std.proofs.Common.{◌≡◌, ℕ, ◌+◌, ◌<◌, ◌≤◌, ◌||◌, List, [], ◌∷◌, ◌++◌, length, take, replicate, ℤ, ◌*ℤ◌, nat_abs, Ok, Err, Result, sym, refl, ap, ◌∙◌, subst, ⊎_elim, arith}
 use Rattle.std.specs.List.{remove}
 use Rattle.std.proofs.lemmas.List.Edits.{length-remove, get_or-remove_below, get_or-remove_above}
 use Rattle.std.proofs.lemmas.List.{get_or_append_left, get_or_push, length_push}
-use Rattle.std.proofs.lemmas.Bool.{or_parts, not-false, ltb-false, leb-false, cases_lt}
+use Rattle.std.proofs.lemmas.Bool.{cond_both, or_parts, cases_lt}
 use Rattle.whole.specs.Lists.{at, coord}
 use Rattle.whole.specs.Sums.{sum}
-use Rattle.whole.specs.Tests.{any, nonzero}
 use Rattle.whole.proofs.Lists.{tab-length}
 use Rattle.whole.proofs.Sums.{sum_ext}
 use Rattle.whole.proofs.Tests.{any_false, differ_false}
-use Rattle.linear.proofs.Outcomes.{passed, not_accepted}
+use Rattle.linear.proofs.Outcomes.{not_accepted}
 use Rattle.records.specs.declared.refusal.Refusal.{Refusal}
-use Rattle.records.specs.declared.refusal.Refusal.TheVariants.{Unfit, Full, Coefficients, Constant, Untrue, NoRelation, NotOpen}
+use Rattle.records.specs.declared.refusal.Refusal.TheVariants.{NotOpen}
 use Rattle.records.specs.declared.role.Role.{Role}
 use Rattle.rules.specs.Values.{Coords, written}
-use Rattle.rules.specs.Sheets.{Sheet, Bond, bond, no_bond, bonds, Workings, bad_coefs, bad_constant, unfit_values, unfit}
+use Rattle.rules.specs.Sheets.{Sheet, Bond, bond, no_bond, bonds, Workings, unfit_values, unfit}
 use Rattle.rules.specs.Pulling.{Placing}
-use Rattle.rules.specs.Calls.{bind_answer, bind_by, untrue, unbind_answer, unbind_by, grip_answer, keeping, pulling}
-use Rattle.rules.specs.Runs.{Phase, free, gripped, proposing, Use, Call, bind, unbind, grip, pull, keep, drop_grip, nothing, Reply, Answers, rebound, held_by, told, freed, in_turn}
+use Rattle.rules.specs.Calls.{Bound, binding, unbinding, bind_answer, bind_by, unbind_answer, unbind_by, grip_answer, keeping, pulling}
+use Rattle.rules.specs.Runs.{Phase, free, gripped, proposing, Use, Call, bind, unbind, grip, pull, keep, drop_grip, nothing, Reply, Answers, reply_to, rebound, held_by, told, freed, in_turn}
+use Rattle.rules.proofs.Accepted.{bindable, unbindable}
 use Rattle.rules.proofs.Bonds.{nth, bonds-bound, bonds-unbound, bonds-marked, take-written}
 use Rattle.rules.proofs.Fit.{fit_values, long_lists}
-use Rattle.rules.proofs.Roles.{good-weights}
 use Rattle.law.specs.Placings.{Holds, AllHold}
 use Rattle.law.specs.Histories.{Told, tell}
 use Rattle.law.specs.Law.{LawfulReply}
 use Rattle.law.specs.Standing.{GrippedWell, ProposedWell, PhaseStands, Standing}
-use Rattle.law.proofs.Facts.{accepted-grip}
+use Rattle.law.proofs.Facts.{accepted-grip, gripped-well}
 use Rattle.law.proofs.Pulls.{kept-nums, pull_stands}
 
 -- ---- relations added and removed
@@ -66,45 +63,39 @@ module _ (size n : ℕ) (t : Told) (u : Use) (S : Standing size n t u) where
       ∙ ap (λ (N : ℕ). sum N (λ p. at b.coefs p *ℤ coord u.values p c)) (sym S.count_is)
       ∙ h c l ∙ ap (λ x. x *ℤ at b.constant c) S.over_is
 
+  -- without a grip it stands too
+  freely : Standing size n t (freed u (Ok s) u.values).then
+  freely = record { count_is = S.count_is; few = S.few; bound_is = S.bound_is; over_is = S.over_is; values_are = S.values_are; shaped = S.shaped; holds = S.holds; phase_is = tt }
+
   -- ---- binding
   bind_stands : (cs : List ℤ) (q : Coords) (a : Result (Unit {0}) Refusal) → bind_answer size s u.values u.relations u.constants cs q ≡ a
       → let o = rebound u (bind_by a s u.relations u.constants cs q) in Standing size n (tell n t (bind cs q) o.reply) o.then
-  bind_stands cs q (Err k) e = record { count_is = S.count_is; few = S.few; bound_is = S.bound_is; over_is = S.over_is; values_are = S.values_are; shaped = S.shaped; holds = S.holds; phase_is = tt }
+  bind_stands cs q (Err k) e = freely
   bind_stands cs q (Ok x) e =
-      let a1 = passed (ltb (length cs) s.count || unfit size s u.values u.relations u.constants) Unfit _ x e in
-      let o1 = or_parts (ltb (length cs) s.count) _ a1.0 in
-      let L = long_lists size s u.values u.relations u.constants o1.1 in
-      let a3 = passed (leb 24 s.bound) Full _ x a1.1 in
-      let few = leb-false _ _ a3.0 in
-      let a4 = passed (not (any s.count (λ p. nonzero (at cs p))) || bad_coefs s.count cs) Coefficients _ x a3.1 in
-      let a5 = passed (bad_constant size q) Constant _ x a4.1 in
-      let a6 = passed (untrue size s.count s.d u.values (bond s.count cs q)) Untrue _ x a5.1 in
+      let B = bindable size s u.values u.relations u.constants cs q x e in
+      let L = long_lists size s u.values u.relations u.constants B.fits in
+      let few = B.few in
       record {
         count_is = S.count_is;
         few = omega arith;
-        bound_is = bonds-bound s.count s.bound s.d s.d u.relations u.constants cs q (omega (arith, L.relations_long)) (omega (arith, L.constants_long)) (ltb-false _ _ o1.0)
+        bound_is = bonds-bound s.count s.bound s.d s.d u.relations u.constants cs q (omega (arith, L.relations_long)) (omega (arith, L.constants_long)) B.long
             ∙ (λ i. S.bound_is i ++ (bond (S.count_is i) cs q ∷ []));
         over_is = S.over_is;
         values_are = S.values_are;
         shaped = S.shaped;
         holds = all_more size n t.kept t.bound (bond n cs q) S.holds (subst (λ (N : ℕ). Holds size n t.kept (bond N cs q)) S.count_is
-            (for_kept (bond s.count cs q) (λ c l. differ_false _ _ (any_false size _ a6.0 c l))));
+            (for_kept (bond s.count cs q) (λ c l. differ_false _ _ (any_false size _ B.holds c l))));
         phase_is = tt;
       }
 
   -- ---- unbinding
-  inside : (i : ℤ) (b : ℕ) → lt_z i (pos 0) ≡ false → lt_z i (pos b) ≡ true → nat_abs i < b
-  inside i b lo hi = omega (arith, ints)
-
   unbind_stands : (i : ℤ) (a : Result (Unit {0}) Refusal) → unbind_answer size s u.values u.relations u.constants i ≡ a
       → let o = rebound u (unbind_by a s u.relations u.constants (nat_abs i)) in Standing size n (tell n t (unbind i) o.reply) o.then
-  unbind_stands i (Err k) e = record { count_is = S.count_is; few = S.few; bound_is = S.bound_is; over_is = S.over_is; values_are = S.values_are; shaped = S.shaped; holds = S.holds; phase_is = tt }
+  unbind_stands i (Err k) e = freely
   unbind_stands i (Ok x) e =
-      let a1 = passed (unfit size s u.values u.relations u.constants) Unfit _ x e in
-      let L = long_lists size s u.values u.relations u.constants a1.0 in
-      let a7 = passed (lt_z i (pos 0) || not (lt_z i (pos s.bound))) NoRelation _ x a1.1 in
-      let o = or_parts (lt_z i (pos 0)) _ a7.0 in
-      let lt = inside i s.bound o.0 (not-false _ o.1) in
+      let B = unbindable size s u.values u.relations u.constants i x e in
+      let L = long_lists size s u.values u.relations u.constants B.0 in
+      let lt = B.1 in
       let long = ap (λ (xs : List Bond). length xs) (sym S.bound_is) ∙ tab-length s.bound (nth s.count u.relations u.constants) in
       record {
         count_is = S.count_is;
@@ -118,13 +109,6 @@ module _ (size n : ℕ) (t : Told) (u : Use) (S : Standing size n t u) where
       }
 
   -- ---- gripping
-  -- the workings of an accepted grip
-  grip_well : (roles : List Role) (w : Workings) → grip_answer size s u.values u.relations u.constants roles (replicate u.places 0) ≡ Ok w
-      → GrippedWell s.count bs (take s.count roles) w
-  grip_well roles w e =
-      let W = accepted-grip size s u.values u.relations u.constants roles (replicate u.places 0) w e in
-      record { roles_are = W.roles_are; weights = good-weights s.count (take s.count roles) W.good; shares_are = W.shares_are; means = W.means }
-
   told-grip : (roles : List Role) (w : Workings) → GrippedWell s.count bs (take s.count roles) w → GrippedWell n t.bound (take n roles) w
   told-grip roles w G = subst (λ (N : ℕ). GrippedWell N t.bound (take N roles) w) S.count_is (subst (λ (xs : List Bond). GrippedWell s.count xs (take s.count roles) w) S.bound_is G)
 
@@ -139,28 +123,15 @@ module _ (size n : ℕ) (t : Told) (u : Use) (S : Standing size n t u) where
     values_are = S.values_are;
     shaped = S.shaped;
     holds = S.holds;
-    phase_is = told-grip roles w (grip_well roles w e);
+    phase_is = told-grip roles w (gripped-well s.count (take s.count roles) bs w (accepted-grip size s u.values u.relations u.constants roles (replicate u.places 0) w e));
   })
 
   -- ---- keeping and dropping
   keep_stands : (e : ℤ) → ProposedWell size n t.bound t.proposal u.proposal e → (w : Workings) → GrippedWell n t.bound t.roles w → (r : Reply)
       → let k = keeping size s u.values u.relations u.constants u.proposal e in Answers (freed u k.0 k.1).reply r → Standing size n (tell n t keep r) (freed u k.0 k.1).then
-  keep_stands e P w G r = by (unfit size s u.values u.relations u.constants || unfit_values size s.count e u.proposal) refl
-    where
-      new : Sheet
-      new = record { count = s.count; bound = s.bound; d = e }
-
-      kept : Bool → Result Sheet Refusal × List Coords
-      kept b = cond b (Err Unfit, u.values) (Ok new, written s.count u.proposal u.values)
-
-      values : s.count ≤ length u.proposal → take n (written s.count u.proposal u.values) ≡ t.proposal.nums
-      values long = ap (λ (N : ℕ). take N (written s.count u.proposal u.values)) (sym S.count_is) ∙ take-written s.count u.proposal u.values long
-          ∙ ap (λ (N : ℕ). take N u.proposal) S.count_is ∙ P.nums_are
-
-      by : (b : Bool) → (unfit size s u.values u.relations u.constants || unfit_values size s.count e u.proposal) ≡ b
-          → Answers (freed u (kept b).0 (kept b).1).reply r → Standing size n (tell n t keep r) (freed u (kept b).0 (kept b).1).then
-      by true q h = subst (λ (x : Reply). Standing size n (tell n t keep x) u) (sym h) S
-      by false q h = subst (λ (x : Reply). Standing size n (tell n t keep x) (freed u (kept false).0 (kept false).1).then) (sym h) (record {
+  keep_stands e P w G r = cond_both (unfit size s u.values u.relations u.constants || unfit_values size s.count e u.proposal) _ _ Stands
+      (λ q h. subst (λ (x : Reply). Standing size n (tell n t keep x) u) (sym h) S)
+      (λ q h. subst (λ (x : Reply). Standing size n (tell n t keep x) (freed u (Ok new) (written s.count u.proposal u.values)).then) (sym h) (record {
         count_is = S.count_is;
         few = S.few;
         bound_is = S.bound_is;
@@ -169,11 +140,20 @@ module _ (size n : ℕ) (t : Told) (u : Use) (S : Standing size n t u) where
         shaped = P.shaped;
         holds = P.holds;
         phase_is = tt;
-      })
+      }))
+    where
+      new : Sheet
+      new = record { count = s.count; bound = s.bound; d = e }
+
+      Stands : Result Sheet Refusal × List Coords → Type 0
+      Stands k = Answers (freed u k.0 k.1).reply r → Standing size n (tell n t keep r) (freed u k.0 k.1).then
+
+      values : s.count ≤ length u.proposal → take n (written s.count u.proposal u.values) ≡ t.proposal.nums
+      values long = ap (λ (N : ℕ). take N (written s.count u.proposal u.values)) (sym S.count_is) ∙ take-written s.count u.proposal u.values long
+          ∙ ap (λ (N : ℕ). take N u.proposal) S.count_is ∙ P.nums_are
 
   drop_stands : (r : Reply) → r ≡ Ok nothing → Standing size n (tell n t drop_grip r) (freed u (Ok s) u.values).then
-  drop_stands r h = subst (λ (x : Reply). Standing size n (tell n t drop_grip x) (freed u (Ok s) u.values).then) (sym h)
-      (record { count_is = S.count_is; few = S.few; bound_is = S.bound_is; over_is = S.over_is; values_are = S.values_are; shaped = S.shaped; holds = S.holds; phase_is = tt })
+  drop_stands r h = subst (λ (x : Reply). Standing size n (tell n t drop_grip x) (freed u (Ok s) u.values).then) (sym h) freely
 
   -- ---- any call, in any phase
   abbrev After : Call → Reply → Use → Type 0
@@ -186,25 +166,14 @@ module _ (size n : ℕ) (t : Told) (u : Use) (S : Standing size n t u) where
   closed-pull : (wishes : List Coords) (r : Reply) → r ≡ Err NotOpen → After (pull wishes) r u
   closed-pull wishes = closed-call (pull wishes) ((λ d1 d11 d12 d19. absurd (d19 refl)), λ g h. absurd (not_accepted NotOpen g h))
 
-  bound-after : (cs : List ℤ) (q : Coords) (r : Reply) → Answers (in_turn size u free (bind cs q)).reply r → After (bind cs q) r (in_turn size u free (bind cs q)).then
-  bound-after cs q r h =
-      let a = bind_answer size s u.values u.relations u.constants cs q in
-      let o = rebound u (bind_by a s u.relations u.constants cs q) in
-      (subst (λ (x : Reply). Standing size n (tell n t (bind cs q) x) o.then) (sym (pinned a r h)) (bind_stands cs q a refl), tt)
+  -- binding and unbinding give nothing back but a refusal
+  rebound-after : (k : Call) → ((x : Reply) → LawfulReply size n t k x) → (b : Bound) → Standing size n (tell n t k (rebound u b).reply) (rebound u b).then
+      → (r : Reply) → Answers (rebound u b).reply r → After k r (rebound u b).then
+  rebound-after k L b T r h = (subst (λ (x : Reply). Standing size n (tell n t k x) (rebound u b).then) (sym (pinned b.0 h)) T, L r)
     where
-      pinned : (a : Result (Unit {0}) Refusal) (r : Reply) → Answers (rebound u (bind_by a s u.relations u.constants cs q)).reply r → r ≡ (rebound u (bind_by a s u.relations u.constants cs q)).reply
-      pinned (Ok x) r h = h
-      pinned (Err e) r h = h
-
-  unbound-after : (i : ℤ) (r : Reply) → Answers (in_turn size u free (unbind i)).reply r → After (unbind i) r (in_turn size u free (unbind i)).then
-  unbound-after i r h =
-      let a = unbind_answer size s u.values u.relations u.constants i in
-      let o = rebound u (unbind_by a s u.relations u.constants (nat_abs i)) in
-      (subst (λ (x : Reply). Standing size n (tell n t (unbind i) x) o.then) (sym (pinned a r h)) (unbind_stands i a refl), tt)
-    where
-      pinned : (a : Result (Unit {0}) Refusal) (r : Reply) → Answers (rebound u (unbind_by a s u.relations u.constants (nat_abs i))).reply r → r ≡ (rebound u (unbind_by a s u.relations u.constants (nat_abs i))).reply
-      pinned (Ok x) r h = h
-      pinned (Err e) r h = h
+      pinned : (a : Result (Unit {0}) Refusal) → Answers (reply_to a) r → r ≡ reply_to a
+      pinned (Ok x) h = h
+      pinned (Err e) h = h
 
   pulled_after : (w : Workings) → GrippedWell n t.bound t.roles w → (wishes : List Coords) (r : Reply) → Answers (Rattle.rules.specs.Runs.pulls size u w wishes).reply r
       → After (pull wishes) r (Rattle.rules.specs.Runs.pulls size u w wishes).then
@@ -213,8 +182,8 @@ module _ (size n : ℕ) (t : Told) (u : Use) (S : Standing size n t u) where
       subst (λ (x : Reply). After (pull wishes) x (Rattle.rules.specs.Runs.pulls size u w wishes).then) (sym (told-reply s.count P.1 P.0 r h)) (pull_stands size n t u S w G wishes)
 
   pub next : (p : Phase) → PhaseStands size n t u.proposal p → (k : Call) (r : Reply) → Answers (in_turn size u p k).reply r → After k r (in_turn size u p k).then
-  next free F (bind cs q) r h = bound-after cs q r h
-  next free F (unbind i) r h = unbound-after i r h
+  next free F (bind cs q) r h = rebound-after (bind cs q) (λ x. tt) (binding size s u.values u.relations u.constants cs q) (bind_stands cs q (bind_answer size s u.values u.relations u.constants cs q) refl) r h
+  next free F (unbind i) r h = rebound-after (unbind i) (λ x. tt) (unbinding size s u.values u.relations u.constants i) (unbind_stands i (unbind_answer size s u.values u.relations u.constants i) refl) r h
   next free F (grip roles) r h = (grip_stands roles (grip_answer size s u.values u.relations u.constants roles (replicate u.places 0)) refl r h, tt)
   next free F (pull wishes) r h = closed-pull wishes r h
   next free F keep r h = closed-call keep tt r h

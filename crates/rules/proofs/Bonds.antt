@@ -2,7 +2,7 @@
 use Rattle.std.proofs.Common.{◌≡◌, ℕ, zero, suc, ◌+◌, ◌-◌, ◌<◌, ◌≤◌, ◌≢◌, List, [], ◌∷◌, ◌++◌, length, get_or, take, drop, set, replicate, ℤ, pos, sym, refl, ap, ◌∙◌, ap₂, ⊎_elim, add-one, arith}
 use Rattle.std.specs.List.{remove}
 use Rattle.std.proofs.lemmas.List.Edits.{length-remove, get_or-remove_below, get_or-remove_above}
-use Rattle.std.proofs.lemmas.List.{get_or_append_left, get_or-append_right, get_or-take, get_or-drop, get_or-set_same, get_or-set_other, length-append, length-take-le, length-drop, take_at}
+use Rattle.std.proofs.lemmas.List.{get_or_append_left, get_or-append_right, get_or-take, get_or-drop, get_or-set_same, get_or-set_other, length-append, length-take-le, length-drop, take_at, take_all}
 use Rattle.std.proofs.lemmas.Bool.{cases_lt}
 use Rattle.records.specs.declared.relation.Mark.TheVariants.{Idle}
 use Rattle.records.specs.declared.relation.Relation.{Relation}
@@ -10,7 +10,7 @@ use Rattle.records.specs.declared.role.Role.{Role}
 use Rattle.whole.specs.Lists.{tab}
 use Rattle.whole.proofs.Lists.{tab-length, get_or-tab, tab_ext, tab_of}
 use Rattle.linear.specs.Elimination.{Grid}
-use Rattle.rules.specs.Values.{Coords, written}
+use Rattle.rules.specs.Values.{Coords, zeros, written}
 use Rattle.rules.specs.Sheets.{Sheet, Bond, bond, no_bond, bonds, relation_at}
 use Rattle.rules.specs.Gripping.{mark_of, with_mark, marked}
 use Rattle.rules.specs.Calls.{recorded, closed}
@@ -19,6 +19,9 @@ use Rattle.rules.specs.Calls.{recorded, closed}
 module _ {X : Type 0} where
   pub take-written : (n : ℕ) (new old : List X) → n ≤ length new → take n (written n new old) ≡ take n new
   take-written n new old l = take_at (take n new) (drop (0 + n) old) n (length-take-le n new l)
+
+  pub take-written_all : (n : ℕ) (new old : List X) → length new ≡ n → take n (written n new old) ≡ new
+  take-written_all n new old e = take-written n new old (omega arith) ∙ take_all n new (omega arith)
 
   pub get_or-written : (n : ℕ) (new old : List X) (d : X) → n ≤ length new → (i : ℕ) → i < n → get_or (written n new old) i d ≡ get_or new i d
   get_or-written n new old d l i b =
@@ -75,6 +78,9 @@ module _ {X : Type 0} where
       where
         sum : length (front ++ later) ≡ i + (n - (i + 1)) → length (drop (i + (n - (i + 1))) xs) ≡ length xs - (i + (n - (i + 1))) → length (front ++ later) + length (drop (i + (n - (i + 1))) xs) ≡ length xs
         sum e f = omega arith
+
+pub zeros-length : (n size : ℕ) → length (zeros n size) ≡ n
+zeros-length n size = tab-length n (λ s. tab size (λ c. pos 0))
 
 -- ---- the bound relations
 abbrev pub none : Relation

@@ -4,3 +4,4 @@ pub mod Counting
 pub mod Fit
 pub mod Bounds
 pub mod Bonds
+pub mod Accepted

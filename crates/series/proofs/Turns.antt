@@ -1,20 +1,16 @@
 -- What holds after each turn of a series.
-use Rattle.std.proofs.Common.{◌≡◌, ℕ, ◌+◌, ◌<◌, ◌≤◌, min, Bool, true, false, cond, ◌||◌, ltb, List, [], ◌∷◌, ◌++◌, map, length, get_or, take, ℤ, pos, Ok, Err, vec_items, vec_len, vec_capacity, Result, Vec, sym, refl, ap, ◌∙◌, subst, arith}
+use Rattle.std.proofs.Common.{◌≡◌, ℕ, ◌+◌, ◌<◌, ◌≤◌, List, [], ◌∷◌, ◌++◌, map, length, get_or, take, ℤ, Ok, vec_items, vec_len, vec_capacity, Vec, sym, ap, ◌∙◌, subst, arith}
 use Rattle.std.specs.declared.alloc.Global.{Global}
 use Rattle.std.proofs.lemmas.List.{map-append, take_more, take_all}
-use Rattle.std.proofs.lemmas.Bool.{or_parts, ltb-false}
-use Rattle.whole.specs.Lists.{tab}
-use Rattle.whole.proofs.Lists.{tab-length}
-use Rattle.linear.proofs.Outcomes.{not_accepted}
-use Rattle.records.specs.declared.refusal.Refusal.{Refusal}
-use Rattle.records.specs.declared.refusal.Refusal.TheVariants.{Unfit, Count}
 use Rattle.records.specs.declared.role.Role.{Role}
-use Rattle.rules.specs.Limits.{most_parameters, most_relations, most_counted, working_places}
+use Rattle.rules.specs.Limits.{most_relations, most_counted, working_places}
 use Rattle.rules.specs.Sheets.{Sheet}
-use Rattle.rules.specs.Values.{Coords, zeros, written}
+use Rattle.rules.specs.Values.{Coords}
 use Rattle.rules.specs.Pulling.{Placing}
 use Rattle.rules.specs.Calls.{opening}
 use Rattle.rules.specs.Runs as runs
+use Rattle.rules.proofs.Accepted.{on_opened}
+use Rattle.rules.proofs.Bonds.{zeros-length}
 use Rattle.law.specs.Plenty.{LongLists}
 use Rattle.law.specs.Run.{Run}
 use Rattle.law.proofs.Ran.{Running, running_none, running_more, ran, values_in}
@@ -25,45 +21,13 @@ use Rattle.desk.specs.declared.desk.Desk.{Desk}
 use Rattle.desk.specs.Desks.{fresh, use_of}
 
 -- ---- a desk's lists are long enough
-few : (size n : ℕ) (values : List Coords) (s : Sheet) → (opening size n values).0 ≡ Ok s → n ≤ most_parameters
-few size n values s = by (ltb (length values) (min n most_parameters)) (ltb n 1 || ltb most_parameters n) refl
-  where
-    new : Sheet
-    new = record { count = n; bound = 0; d = pos 1 }
-
-    outcome : Bool → Bool → Result Sheet Refusal × List Coords
-    outcome a b = cond a (Err Unfit, values) (cond b (Err Count, values) (Ok new, written n (zeros n size) values))
-
-    by : (a b : Bool) → (ltb n 1 || ltb most_parameters n) ≡ b → (outcome a b).0 ≡ Ok s → n ≤ most_parameters
-    by true b e h = absurd (not_accepted Unfit s h)
-    by false true e h = absurd (not_accepted Count s h)
-    by false false e h = ltb-false _ _ (or_parts (ltb n 1) _ e).1
-
-zeros_long : (n size : ℕ) → length (zeros n size) ≡ n
-zeros_long n size = tab-length n (λ s. tab size (λ c. pos 0))
-
-relations_long : most_relations ≤ length no_relations
-unfolding no_relations
-relations_long = omega arith
-
-constants_long : (size : ℕ) → most_relations ≤ length (by_relation size)
-unfolding by_relation
-constants_long size = let l = zeros_long most_relations size in omega arith
-
-proposal_long : (size : ℕ) → most_parameters ≤ length (by_parameter size)
-unfolding by_parameter
-proposal_long size = let l = zeros_long most_parameters size in omega arith
-
-working_long : (size : ℕ) → working_places ≤ length (by_working size)
-unfolding by_working
-working_long size = let l = zeros_long working_places size in omega arith
-
 long : (size n : ℕ) (s : Sheet) → (opening size n (by_parameter size)).0 ≡ Ok s → LongLists n (fresh size n s)
+unfolding no_relations by_relation by_working
 long size n s e = record {
-  relations = relations_long;
-  constants = constants_long size;
-  proposal = let f = few size n (by_parameter size) s e in let p = proposal_long size in omega arith;
-  working = working_long size;
+  relations = omega arith;
+  constants = let l = zeros-length most_relations size in omega arith;
+  proposal = on_opened size n (by_parameter size) s e (λ t vs. n ≤ length (by_parameter size)) (λ few room. room);
+  working = let l = zeros-length working_places size in omega arith;
   spare_list = omega arith;
 }
 

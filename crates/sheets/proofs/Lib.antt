@@ -3,4 +3,3 @@ pub mod Writing
 pub mod Combining
 pub mod Fit
 pub mod Gaps
-pub mod Accepted

@@ -1,11 +1,11 @@
 -- What a keep on a desk comes to.
 use Rattle.calls.specs.Shown.{Answer}
-use Rattle.std.proofs.Common.{◌≡◌, ℕ, Bool, true, false, cond, ◌||◌, List, map, length, ℤ, Ok, Err, vec_items, Result, sym, refl, ap, ◌∙◌, subst, arith}
+use Rattle.std.proofs.Common.{◌≡◌, ℕ, ◌||◌, List, map, length, ℤ, Ok, Err, vec_items, Result, sym, refl, ap, ◌∙◌, subst, arith}
+use Rattle.std.proofs.lemmas.Bool.{cond_both}
 use Rattle.linear.proofs.Outcomes.{not_accepted}
 use Rattle.records.specs.declared.refusal.Refusal.{Refusal}
-use Rattle.records.specs.declared.refusal.Refusal.TheVariants.{Unfit}
 use Rattle.records.specs.declared.relation.Relation.{Relation}
-use Rattle.rules.specs.Values.{Coords, written}
+use Rattle.rules.specs.Values.{Coords}
 use Rattle.rules.specs.Sheets as rules
 use Rattle.rules.specs.Calls.{keeping}
 use Rattle.rules.specs.Runs as runs
@@ -18,32 +18,19 @@ use Rattle.steps.proofs.Steps.{holding}
 abbrev Kept : Type 0
 Kept = Result rules.Sheet (rules.Sheet × Refusal)
 
-abbrev sheet_in : Kept → rules.Sheet
-sheet_in (Ok s) = s
-sheet_in (Err p) = p.0
-
-abbrev refusal_in : Refusal → Kept → Refusal
-refusal_in k (Ok s) = k
-refusal_in k (Err p) = p.1
-
 accepted : (s t : rules.Sheet) (r : Result rules.Sheet Refusal) → ◌≡◌ {A = Kept} (Ok t) (handing_back s r) → r ≡ Ok t
-accepted s t (Ok x) e = ap Ok (sym (ap sheet_in e))
+accepted s t (Ok x) e = let z : x ≡ t = cc in ap Ok z
 accepted s t (Err k) e = let z : ◌≡◌ {A = ℕ} 0 1 = cc in absurd (omega arith)
 
 refused : (s t : rules.Sheet) (k : Refusal) (r : Result rules.Sheet Refusal) → ◌≡◌ {A = Kept} (Err (t, k)) (handing_back s r) → (t ≡ s) × (r ≡ Err k)
 refused s t k (Ok x) e = let z : ◌≡◌ {A = ℕ} 0 1 = cc in absurd (omega arith)
-refused s t k (Err x) e = (ap sheet_in e, sym (ap (λ (h : Kept). Err (refusal_in k h)) e))
+refused s t k (Err x) e = let p : (t, k) ≡ (s, x) = cc in (ap (λ (h : rules.Sheet × Refusal). h.0) p, sym (ap (λ (h : rules.Sheet × Refusal). Err h.1) p))
 
 -- a refused keep leaves the values
 unchanged : (size : ℕ) (s : rules.Sheet) (vs : List Coords) (rs : List Relation) (qs ps : List Coords) (d : ℤ) (k : Refusal) → (keeping size s vs rs qs ps d).0 ≡ Err k → (keeping size s vs rs qs ps d).1 ≡ vs
-unchanged size s vs rs qs ps d k = by (rules.unfit size s vs rs qs || rules.unfit_values size s.count d ps)
-  where
-    kept : Bool → Result rules.Sheet Refusal × List Coords
-    kept b = cond b (Err Unfit, vs) (Ok (record { count = s.count; bound = s.bound; d = d }), written s.count ps vs)
-
-    by : (b : Bool) → (kept b).0 ≡ Err k → (kept b).1 ≡ vs
-    by true e = refl
-    by false e = absurd (not_accepted k (record { count = s.count; bound = s.bound; d = d }) (sym e))
+unchanged size s vs rs qs ps d k = cond_both (rules.unfit size s vs rs qs || rules.unfit_values size s.count d ps) _ _ (λ (o : Result rules.Sheet Refusal × List Coords). o.0 ≡ Err k → o.1 ≡ vs)
+    (λ q e. refl)
+    (λ q e. absurd (not_accepted k (record { count = s.count; bound = s.bound; d = d }) (sym e)))
 
 -- a keep was lent the desk's lists
 module _ {K : Type 0} (f : K → Coords) (size : ℕ) (before after : Lists K) (s : rules.Sheet) (phase : runs.Phase) (d : ℤ)

@@ -1,17 +1,15 @@
 -- What a pull on a desk comes to.
 use Rattle.calls.specs.Shown.{Answer}
-use Rattle.std.proofs.Common.{◌≡◌, ℕ, ◌≤◌, Bool, true, false, cond, not, ◌||◌, eqb, ltb, List, map, length, take, ℤ, Ok, Err, vec_items, Result, sym, refl, ap, ◌∙◌, subst}
-use Rattle.std.proofs.lemmas.Bool.{or_parts, ltb-false}
+use Rattle.std.proofs.Common.{◌≡◌, ℕ, ◌≤◌, List, map, length, take, ℤ, Ok, Err, vec_items, Result, sym, refl, ap, ◌∙◌, subst}
+use Rattle.std.proofs.lemmas.Bool.{cond_both}
 use Rattle.linear.proofs.Outcomes.{not_accepted}
 use Rattle.records.specs.declared.refusal.Refusal.{Refusal}
 use Rattle.records.specs.declared.refusal.Refusal.TheVariants.{Unfit}
 use Rattle.records.specs.declared.relation.Relation.{Relation}
 use Rattle.records.specs.Outcomes.{image}
-use Rattle.rules.specs.Limits.{working_places}
+use Rattle.rules.proofs.Accepted.{pullable}
 use Rattle.rules.specs.Values.{Coords}
-use Rattle.rules.specs.Gripping.{counted}
 use Rattle.rules.specs.Sheets as rules
-use Rattle.rules.specs.Pulling.{proposed}
 use Rattle.rules.specs.Calls as Calls
 use Rattle.rules.specs.Calls.{pull_by, unfit_pull, pulling}
 use Rattle.rules.specs.Runs as runs
@@ -23,24 +21,10 @@ use Rattle.steps.proofs.Steps.{Handed, with_sheet, accepted, refused, holding}
 
 -- an accepted pull had room for its proposal
 module _ (size : ℕ) (s : rules.Sheet) (vs : List Coords) (rs : List Relation) (qs : List Coords) (w : rules.Workings) (wishes proposal working : List Coords) (d : ℤ) where
-  room : unfit_pull size s vs rs qs w wishes proposal working ≡ false → s.count ≤ length proposal
-  room e =
-      let n = s.count in
-      let a = or_parts (ltb (length wishes) n || ltb (length proposal) n || ltb (length working) working_places || rules.unfit size s vs rs qs || not (eqb w.count n)) _ e in
-      let b = or_parts (ltb (length wishes) n || ltb (length proposal) n || ltb (length working) working_places || rules.unfit size s vs rs qs) _ a.0 in
-      let c = or_parts (ltb (length wishes) n || ltb (length proposal) n || ltb (length working) working_places) _ b.0 in
-      let h = or_parts (ltb (length wishes) n || ltb (length proposal) n) _ c.0 in
-      ltb-false _ _ (or_parts (ltb (length wishes) n) _ h.0).1
-
   pub proposal_long : (pulling size s vs rs qs w wishes proposal working).0 ≡ Ok d → s.count ≤ length proposal
-  proposal_long = by (unfit_pull size s vs rs qs w wishes proposal working) refl
-    where
-      outcome : Bool → Calls.Pulled
-      outcome b = cond b (Err Unfit, proposal, working) (pull_by size s.count proposal working (proposed size s.count w.roles w.shares (counted s.count w.roles (rules.bonds s rs qs)) w.table s.d vs wishes))
-
-      by : (b : Bool) → unfit_pull size s vs rs qs w wishes proposal working ≡ b → (outcome b).0 ≡ Ok d → s.count ≤ length proposal
-      by true e h = absurd (not_accepted Unfit d h)
-      by false e h = room e
+  proposal_long = cond_both (unfit_pull size s vs rs qs w wishes proposal working) _ _ (λ (P : Calls.Pulled). P.0 ≡ Ok d → s.count ≤ length proposal)
+      (λ e h. absurd (not_accepted Unfit d h))
+      (λ e h. (pullable size s vs rs qs w wishes proposal working e).0)
 
 -- a pull was lent the desk's lists
 module _ {K : Type 0} (f : K → Coords) (size : ℕ) (before after : Lists K) (s : rules.Sheet) (phase : runs.Phase) (w : rules.Workings) (wishes : List Coords)

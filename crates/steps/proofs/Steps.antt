@@ -1,7 +1,8 @@
 -- What a call on a desk comes to, from what the sheet's call gave.
-use Rattle.std.proofs.Common.{◌≡◌, ℕ, ◌||◌, ltb, List, map, length, take, replicate, IfOk, Ok, Err, vec_items, Result, sym, refl, ap, ◌∙◌, subst, arith}
+use Rattle.std.proofs.Common.{◌≡◌, ℕ, ◌||◌, ltb, List, map, length, take, replicate, IfOk, Ok, Err, vec_items, vec_len, Result, sym, refl, ap, ◌∙◌, subst, arith}
 use Rattle.std.specs.declared.alloc.AllocError.{AllocError}
-use Rattle.std.proofs.lemmas.List.{length-replicate}
+use Rattle.std.specs.Vec.{with_items}
+use Rattle.std.proofs.lemmas.List.{length-replicate, with_items_is}
 use Rattle.records.specs.declared.refusal.Refusal.{Refusal}
 use Rattle.records.specs.declared.refusal.Refusal.TheVariants.{Unfit}
 use Rattle.records.specs.declared.relation.Relation.{Relation}
@@ -10,7 +11,9 @@ use Rattle.records.specs.Outcomes.{guard, image}
 use Rattle.rules.specs.Limits.{most_counted}
 use Rattle.rules.specs.Values.{Coords}
 use Rattle.rules.specs.Sheets as rules
-use Rattle.rules.specs.Calls.{grip_on, grip_answer}
+use Rattle.sheets.specs.declared.record.Sheet.{Sheet}
+use Rattle.sheets.specs.Shown.{numbers}
+use Rattle.rules.specs.Calls.{Bound, grip_on, grip_answer}
 use Rattle.rules.specs.Runs as runs
 use Rattle.grips.specs.Shown.{handing_back}
 use Rattle.calls.specs.Shown.{Answer, reply_of}
@@ -21,7 +24,7 @@ use Rattle.steps.specs.Steps.{in_use, use_in, Means, Stepped, SteppedIn}
 
 -- ---- replies
 -- a reply that is none of a grip's answers itself
-pub answers-done : (r : Result (Unit {0}) Refusal) (a : runs.Reply) → a ≡ runs.reply_to r → runs.Answers (runs.reply_to r) a
+answers-done : (r : Result (Unit {0}) Refusal) (a : runs.Reply) → a ≡ runs.reply_to r → runs.Answers (runs.reply_to r) a
 answers-done (Ok x) a e = e
 answers-done (Err x) a e = e
 
@@ -42,6 +45,20 @@ module _ {K : Type 0} (f : K → Coords) (l : Lists K) (sheet : rules.Sheet) (ph
     phase = phase;
   }
 
+-- ---- binding and unbinding
+-- the sheet was bound or unbound with its relations and constants
+pub rebound_step : {K : Type 0} (f : K → Coords) (lists : Lists K) (s : rules.Sheet) (now : Sheet) (rs : List Relation) (qs : List K) (given : Result (Unit {0}) Refusal) (answer : Answer K) (b : Bound)
+    → length rs ≡ vec_len lists.relations → length qs ≡ vec_len lists.constants → (given, numbers now, rs, map f qs) ≡ b → reply_of f answer ≡ runs.reply_to given
+    → Stepped f (runs.rebound (in_use f lists s runs.free) b)
+    (record { values = lists.values; relations = with_items lists.relations rs; constants = with_items lists.constants qs; proposal = lists.proposal; working = lists.working; spare = lists.spare }) (Free now, answer)
+rebound_step f lists s now rs qs given answer b lr lq e h = record {
+  then =
+      holding f (record { values = lists.values; relations = with_items lists.relations rs; constants = with_items lists.constants qs; proposal = lists.proposal; working = lists.working; spare = lists.spare })
+      (numbers now) runs.free refl (with_items_is lists.relations rs lr) (ap (map f) (with_items_is lists.constants qs lq)) refl refl refl
+      ∙ ap (λ (b : Bound). (runs.rebound (in_use f lists s runs.free) b).then) e;
+  reply = subst (λ (b : Bound). runs.Answers (runs.reply_to b.0) (reply_of f answer)) e (answers-done given (reply_of f answer) h);
+}
+
 -- ---- gripping
 -- of the spare list only its count of places matters
 module _ (size : ℕ) (s : rules.Sheet) (vs : List Coords) (rs : List Relation) (qs : List Coords) (roles : List Role) where
@@ -51,21 +68,9 @@ module _ (size : ℕ) (s : rules.Sheet) (vs : List Coords) (rs : List Relation) 
   pub by_length : (spare : List ℕ) → grip_answer size s vs rs qs roles spare ≡ grip_answer size s vs rs qs roles (replicate (length spare) 0)
   by_length spare = ap by-places (sym (length-replicate (length spare) 0))
 
--- the parts of what was handed back
+-- what was handed back
 abbrev pub Handed : Type 0 → Type 0
 Handed A = Result (rules.Sheet × A) (rules.Sheet × Refusal)
-
-abbrev sheet_in : {A : Type 0} → Handed A → rules.Sheet
-sheet_in (Ok p) = p.0
-sheet_in (Err p) = p.0
-
-abbrev given_in : {A : Type 0} → A → Handed A → A
-given_in a (Ok p) = p.1
-given_in a (Err p) = a
-
-abbrev refusal_in : {A : Type 0} → Refusal → Handed A → Refusal
-refusal_in k (Ok p) = k
-refusal_in k (Err p) = p.1
 
 abbrev pub with_sheet : {A : Type 0} → rules.Sheet → A → rules.Sheet × A
 with_sheet s a = (s, a)
@@ -73,12 +78,12 @@ with_sheet s a = (s, a)
 module _ {A : Type 0} (s t : rules.Sheet) where
   -- an answer from what was handed back with the sheet
   pub accepted : (a : A) (r : Result A Refusal) → ◌≡◌ {A = Handed A} (Ok (t, a)) (handing_back s (image (with_sheet s) r)) → (t ≡ s) × (r ≡ Ok a)
-  accepted a (Ok x) e = (ap sheet_in e, sym (ap (λ (h : Handed A). Ok (given_in a h)) e))
+  accepted a (Ok x) e = let p : (t, a) ≡ with_sheet s x = cc in (ap (λ (h : rules.Sheet × A). h.0) p, sym (ap (λ (h : rules.Sheet × A). Ok h.1) p))
   accepted a (Err k) e = let z : ◌≡◌ {A = ℕ} 0 1 = cc in absurd (omega arith)
 
   pub refused : (k : Refusal) (r : Result A Refusal) → ◌≡◌ {A = Handed A} (Err (t, k)) (handing_back s (image (with_sheet s) r)) → (t ≡ s) × (r ≡ Err k)
   refused k (Ok x) e = let z : ◌≡◌ {A = ℕ} 0 1 = cc in absurd (omega arith)
-  refused k (Err x) e = (ap sheet_in e, sym (ap (λ (h : Handed A). Err (refusal_in k h)) e))
+  refused k (Err x) e = let p : (t, k) ≡ (s, x) = cc in (ap (λ (h : rules.Sheet × Refusal). h.0) p, sym (ap (λ (h : rules.Sheet × Refusal). Err h.1) p))
 
 -- ---- a desk
 -- a desk's values lie in its list, whatever its state

@@ -3,7 +3,7 @@ use Rattle.std.proofs.Common.{◌≡◌, ℕ, zero, suc, ◌<◌, ◌≤◌, Boo
 use mathlib.Core.Bool.{false≢true}
 use native.Mathlib.Decide.{ℕ_discrete}
 use Rattle.std.proofs.lemmas.Bool.{or_parts, or_cases, not-true, not-false, ltb-false, le-ltb}
-use Rattle.whole.specs.Tests.{any, tally, above, is_zero, nonzero, differ}
+use Rattle.whole.specs.Tests.{any, above, is_zero, nonzero, differ}
 use Rattle.whole.proofs.Integers.{cancel}
 
 -- ---- the indices below a bound
@@ -42,20 +42,6 @@ some-any n p i l e = by (any n p) refl
 pub any_ext : (n : ℕ) (p q : ℕ → Bool) → ((i : ℕ) → i < n → p i ≡ q i) → any n p ≡ any n q
 any_ext zero p q h = refl
 any_ext (suc n) p q h = λ t. any_ext n p q (λ i l. h i (omega arith)) t || h n (omega arith) t
-
-pub tally_ext : (n : ℕ) (p q : ℕ → Bool) → ((i : ℕ) → i < n → p i ≡ q i) → tally n p ≡ tally n q
-tally_ext zero p q h = refl
-tally_ext (suc n) p q h =
-    let count : Bool → ℕ → ℕ = λ b r. elim b [ true ↦ suc r | false ↦ r ] in
-    λ t. count (h n (omega arith) t) (tally_ext n p q (λ i l. h i (omega arith)) t)
-
-pub tally-≤ : (n : ℕ) (p : ℕ → Bool) → tally n p ≤ n
-tally-≤ zero p = omega arith
-tally-≤ (suc n) p = by (p n) (tally-≤ n p)
-  where
-    by : (b : Bool) → tally n p ≤ n → elim b as (λ z. ℕ) [ true ↦ suc (tally n p) | false ↦ tally n p ] ≤ suc n
-    by true h = omega arith
-    by false h = omega arith
 
 -- ---- sizes
 pub above_false : (limit : ℕ) (x : ℤ) → above limit x ≡ false → nat_abs x ≤ limit

@@ -1,10 +1,10 @@
 -- A grip reads the coefficients of the bound relations, and not their constants.
 use Rattle.std.proofs.Common.{◌≡◌, ℕ, zero, suc, ◌<◌, ◌≤◌, Bool, true, false, cond, ◌||◌, ltb, List, [], ◌∷◌, map, length, get_or, take, ℤ, Ok, Result, sym, refl, ap, ◌∙◌, arith}
 use Rattle.std.proofs.lemmas.List.{get_or-take, length-map, length-take-le}
+use Rattle.std.proofs.lemmas.Simd.{map-map}
 use Rattle.std.proofs.lemmas.Bool.{or_from, or_parts, le-ltb}
 use Rattle.records.specs.declared.refusal.Refusal.{Refusal}
 use Rattle.records.specs.declared.refusal.Refusal.TheVariants.{Roles, Crowded}
-use Rattle.records.specs.declared.relation.Mark.TheVariants.{Idle}
 use Rattle.records.specs.declared.relation.Relation.{Relation}
 use Rattle.records.specs.declared.role.Role.{Role}
 use Rattle.records.specs.Outcomes.{guard, onward}
@@ -18,6 +18,7 @@ use Rattle.rules.specs.Gripping.{role, share, shares, bad_roles, counts, counted
 use Rattle.rules.specs.Sheets as rules
 use Rattle.rules.specs.Sheets.{Bond, bond, bonds, no_bond, relation_at, bad_coefs, bad_constant, bad_relation, unfit_relations}
 use Rattle.rules.specs.Values.{Coords}
+use Rattle.rules.proofs.Bonds.{none}
 use Rattle.workings.specs.Chosen.{bare, unready}
 
 module _ (n : ℕ) (roles : List Role) where
@@ -60,23 +61,25 @@ module _ (n : ℕ) (roles : List Role) where
   pub grip_on-same : (bs bs' : List Bond) → map (λ b. b.coefs) bs ≡ map (λ b. b.coefs) bs' → grip_on n roles bs ≡ grip_on n roles bs'
   grip_on-same bs bs' e = grip_on_made bs ∙ ap made_of (counted_pick bs ∙ ap pick e ∙ sym (counted_pick bs')) ∙ sym (grip_on_made bs')
 
+-- a relation without its constant
+abbrev pub strip : Bond → Bond
+strip b = record { coefs = b.coefs; constant = [] }
+
+take-tab : {X : Type 0} (xs : List X) (z : X) (k : ℕ) → k ≤ length xs → take k xs ≡ tab k (λ i. get_or xs i z)
+take-tab {X = X} xs z k h =
+    sym (tab_of (take k xs) z) ∙ ap (λ (m : ℕ). tab m (λ i. get_or (take k xs) i z)) (length-take-le k xs h) ∙ tab_ext k (λ i. get_or (take k xs) i z) (λ i. get_or xs i z) (λ i l. get_or-take k xs i z l)
+
+pub bare_strip : (s : rules.Sheet) (rs : List Relation) (qs : List Coords) → s.bound ≤ length rs → bare s.count (take s.bound rs) ≡ map strip (bonds s rs qs)
+bare_strip s rs qs h =
+    ap (bare s.count) (take-tab rs none s.bound h)
+    ∙ map-tab s.bound (relation_at rs) (λ r. bond s.count r.coefficients [])
+    ∙ sym (map-tab s.bound (λ i. bond s.count (relation_at rs i).coefficients (get_or qs i [])) strip)
+
 -- the bound relations of a sheet
 pub grip_on-bonds : (s : rules.Sheet) (roles : List Role) (rs : List Relation) (qs : List Coords) → s.bound ≤ length rs
     → grip_on s.count roles (bonds s rs qs) ≡ grip_on s.count roles (bare s.count (take s.bound rs))
 grip_on-bonds s roles rs qs h = grip_on-same s.count roles (bonds s rs qs) (bare s.count (take s.bound rs))
-    (map-tab s.bound (λ i. bond s.count (relation_at rs i).coefficients (get_or qs i [])) (λ (b : Bond). b.coefs) ∙ sym front)
-  where
-    listed : take s.bound rs ≡ tab s.bound (relation_at rs)
-    listed =
-        sym (tab_of (take s.bound rs) (record { coefficients = []; mark = Idle }))
-        ∙ ap (λ (k : ℕ). tab k (relation_at (take s.bound rs))) (length-take-le s.bound rs h)
-        ∙ tab_ext s.bound _ _ (λ i l. get_or-take s.bound rs i (record { coefficients = []; mark = Idle }) l)
-
-    front : map (λ b. b.coefs) (bare s.count (take s.bound rs)) ≡ tab s.bound (λ i. take s.count (relation_at rs i).coefficients)
-    front =
-        ap (λ xs. map (λ (b : Bond). b.coefs) (bare s.count xs)) listed
-        ∙ ap (map (λ (b : Bond). b.coefs)) (map-tab s.bound (relation_at rs) (λ (r : Relation). bond s.count r.coefficients []))
-        ∙ map-tab s.bound (λ i. bond s.count (relation_at rs i).coefficients []) (λ (b : Bond). b.coefs)
+    (sym (map-map (λ (b : Bond). b.coefs) strip (bonds s rs qs)) ∙ ap (map (λ (b : Bond). b.coefs)) (sym (bare_strip s rs qs h)))
 
 -- relations that are not unfit are ready to be gripped
 pub ready_from : (size : ℕ) (s : rules.Sheet) (rs : List Relation) (qs : List Coords) (roles : List Role) → unfit_relations size s rs qs ≡ false
@@ -84,7 +87,7 @@ pub ready_from : (size : ℕ) (s : rules.Sheet) (rs : List Relation) (qs : List 
 ready_from size s rs qs roles fit h same few =
     or_from (ltb 48 (length roles)) _ (le-ltb 48 (length roles) (omega arith))
     (none_any (length (take s.bound rs)) _ (λ i l. let k : i < s.bound = let e = length-take-le s.bound rs h in omega arith in
-    (λ j. bad_coefs (same j) (get_or-take s.bound rs i (record { coefficients = []; mark = Idle }) k j).coefficients) ∙ fine i k))
+    (λ j. bad_coefs (same j) (get_or-take s.bound rs i none k j).coefficients) ∙ fine i k))
   where
     fine : (i : ℕ) → i < s.bound → bad_coefs s.count (relation_at rs i).coefficients ≡ false
     fine i k = (or_parts (bad_coefs s.count (relation_at rs i).coefficients) (bad_constant size (get_or qs i []))

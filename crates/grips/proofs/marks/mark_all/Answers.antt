@@ -6,7 +6,8 @@ use Rattle.whole.proofs.Lists.{tab-length}
 use Rattle.rules.specs.Sheets.{relation_at}
 use Rattle.rules.specs.Gripping.{counts, with_mark, mark_of}
 use Rattle.workings.specs.Shown.{shown}
-use Rattle.grips.proofs.Marking.{marks, none, bs, length_bs, counts-at, marked_more, tally_next, written_next}
+use Rattle.rules.proofs.Bonds.{none}
+use Rattle.grips.proofs.Marking.{marks, bs, length_bs, counts-at, marked_more, tally_next, written_next}
 use Rattle.grips.proofs.marks.mark_all.Goals as goal
 use Rattle.grips.proofs.marks.mark_all.Goals.{then-counts, else-counts}
 
