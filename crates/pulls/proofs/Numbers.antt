@@ -1,5 +1,5 @@
 -- One parameter's numerator.
-use Rattle.std.proofs.Common.{◌≡◌, ℕ, ◌<◌, ◌≤◌, false, not, List, [], ◌∷◌, length, get_or, replicate, ℤ, pos, ◌+ℤ◌, ◌*ℤ◌, nat_abs, sym, refl, ap, ◌∙◌, subst, true≢false, arith}
+use Rattle.std.proofs.Common.{◌≡◌, ℕ, ◌<◌, ◌≤◌, false, not, List, [], length, get_or, replicate, ℤ, pos, ◌+ℤ◌, ◌*ℤ◌, nat_abs, sym, refl, ap, ◌∙◌, subst, true≢false, arith}
 use lib.IntN.{+ℤ_idl, *ℤ_comm}
 use Rattle.whole.specs.Lists.{tab, at, coord}
 use Rattle.whole.proofs.Lists.{tab_ext, at-tab}
@@ -11,7 +11,7 @@ use Rattle.rules.specs.Sheets.{relation_at, unfit_values}
 use Rattle.rules.specs.Gripping.{role, is_held}
 use Rattle.rules.proofs.Bounds.{wish-≤, numerator-within}
 use Rattle.rules.proofs.Fit.{fit_values}
-use Rattle.whole.proofs.Ring.{◌⊗◌, ring}
+use Rattle.whole.proofs.Integers.{*-assoc}
 use Rattle.records.specs.declared.role.Role.{Role}
 use Rattle.records.specs.declared.role.Role.TheVariants.{Held, Pulled, Loose}
 use Rattle.rules.specs.Values.{Coords}
@@ -40,14 +40,8 @@ module _ (size : ℕ) (none : List ℤ) (k : ℤ) (us ws : List ℤ) (zeros : no
 -- over e = l × d
 over-product : (r : Role) (l d n wish v x : ℤ) → numerator_over r l (l *ℤ d) n wish v x ≡ numerator r l d n wish v x
 over-product Held l d n wish v x = refl
-over-product Pulled l d n wish v x = sym (assoc l d wish)
-  where
-    assoc : (a b c : ℤ) → a *ℤ (b *ℤ c) ≡ a *ℤ b *ℤ c
-    assoc a b c = ring (a ∷ b ∷ c ∷ []) (Rattle.whole.proofs.Ring.v 0 ⊗ (Rattle.whole.proofs.Ring.v 1 ⊗ Rattle.whole.proofs.Ring.v 2)) (Rattle.whole.proofs.Ring.v 0 ⊗ Rattle.whole.proofs.Ring.v 1 ⊗ Rattle.whole.proofs.Ring.v 2) tt
-over-product (Loose w) l d n wish v x = ap (λ (z : ℤ). z +ℤ v *ℤ x) (sym (assoc l d wish))
-  where
-    assoc : (a b c : ℤ) → a *ℤ (b *ℤ c) ≡ a *ℤ b *ℤ c
-    assoc a b c = ring (a ∷ b ∷ c ∷ []) (Rattle.whole.proofs.Ring.v 0 ⊗ (Rattle.whole.proofs.Ring.v 1 ⊗ Rattle.whole.proofs.Ring.v 2)) (Rattle.whole.proofs.Ring.v 0 ⊗ Rattle.whole.proofs.Ring.v 1 ⊗ Rattle.whole.proofs.Ring.v 2) tt
+over-product Pulled l d n wish v x = *-assoc l d wish
+over-product (Loose w) l d n wish v x = ap (λ (z : ℤ). z +ℤ v *ℤ x) (*-assoc l d wish)
 
 -- the sizes of one parameter's numbers at coordinate c
 module _ (size n : ℕ) (roles : List Role) (l : ℕ) (d : ℤ) (values wishes : List Coords) (v : ℤ) (rs : List Relation) (rows : List ℕ) (xs : List Coords) (s c : ℕ) (few : l ≤ 2147483647)
