@@ -16,7 +16,7 @@ pub fn read_line<V: Written>(heap: Global, count: usize, line: &[u8]) -> Result<
     ensures { LineRead V.form count line.now result }
 {
     let (verb, reader) = read_keyword(line).ok_or(Fault::Form)?;
-    let mut rest = Rest {
+    let rest = Rest {
         heap,
         count,
         reader,

@@ -50,8 +50,8 @@ impl Rest<'_> {
     }
 
     // The line that these words say behind a verb.
-    pub(crate) fn line<V: Written>(&mut self, verb: Verb) -> Result<Line<V>, Fault>
-        ensures { ReadBy V.form self.old.count verb (left self.old.reader) result }
+    pub(crate) fn line<V: Written>(mut self, verb: Verb) -> Result<Line<V>, Fault>
+        ensures { ReadBy V.form self.entry.count verb (left self.entry.reader) result }
     {
         let line = match verb {
             Verb::Bind => Line::Bind(self.row()?, self.one()?),

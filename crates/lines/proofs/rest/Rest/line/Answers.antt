@@ -13,37 +13,37 @@ pub returns-in_err-row-in-Bind : goal.returns-in_err-row-in-Bind
 returns-in_err-row-in-Bind g c =
     let p = err_from_is_err_and c.from_residual.result c.from_residual.ensures.1 in
     let form = g.V.Written.form in
-    let ws = left c.args.self.now.reader in
-    rw (p.1, p.2) (refuses_map c.in_err-row-in-Bind.field-0.0 _ _ (λ none. subst (λ v. Unsayable form c.args.self.now.count v ws) (sym c.in-Bind.is) (bind-none form c.args.self.now.count ws none)) c.in_err-row-in-Bind.ensures.read)
+    let ws = left c.args.self.reader in
+    rw (p.1, p.2) (refuses_map c.in_err-row-in-Bind.field-0.0 _ _ (λ none. subst (λ v. Unsayable form c.args.self.count v ws) (sym c.in-Bind.is) (bind-none form c.args.self.count ws none)) c.in_err-row-in-Bind.ensures.read)
 
 pub returns-in_err-one-in-Bind : goal.returns-in_err-one-in-Bind
 returns-in_err-one-in-Bind g c =
     let p = err_from_is_err_and c.from_residual-in_err-one-in-Bind.result c.from_residual-in_err-one-in-Bind.ensures.1 in
     let form = g.V.Written.form in
-    let ws = left c.args.self.now.reader in
-    rw (p.1, p.2) (refused c.in_err-one-in-Bind.field-0.0 _ (subst (λ v. Unsayable form c.args.self.now.count v ws) (sym c.in-Bind.is)
-    (bind_no_value form c.args.self.now.count ws (left c.row.new.self.reader) (left c.one.new.self.reader) (vec_items c.in_ok-row-in-Bind.field-0) c.in_ok-row-in-Bind.ensures.read c.in_err-one-in-Bind.ensures.read)))
+    let ws = left c.args.self.reader in
+    rw (p.1, p.2) (refused c.in_err-one-in-Bind.field-0.0 _ (subst (λ v. Unsayable form c.args.self.count v ws) (sym c.in-Bind.is)
+    (bind_no_value form c.args.self.count ws (left c.row.new.self.reader) (left c.one.new.self.reader) (vec_items c.in_ok-row-in-Bind.field-0) c.in_ok-row-in-Bind.ensures.read c.in_err-one-in-Bind.ensures.read)))
 
 pub returns-in_err-row-in-Grip : goal.returns-in_err-row-in-Grip
 returns-in_err-row-in-Grip g c =
     let p = err_from_is_err_and c.from_residual-in_err-row-in-Grip.result c.from_residual-in_err-row-in-Grip.ensures.1 in
     let form = g.V.Written.form in
-    let ws = left c.args.self.now.reader in
-    rw (p.1, p.2) (refuses_map c.in_err-row-in-Grip.field-0.0 _ _ (λ none. subst (λ v. Unsayable form c.args.self.now.count v ws) (sym c.in-Grip.is) (grip-none form c.args.self.now.count ws none)) c.in_err-row-in-Grip.ensures.read)
+    let ws = left c.args.self.reader in
+    rw (p.1, p.2) (refuses_map c.in_err-row-in-Grip.field-0.0 _ _ (λ none. subst (λ v. Unsayable form c.args.self.count v ws) (sym c.in-Grip.is) (grip-none form c.args.self.count ws none)) c.in_err-row-in-Grip.ensures.read)
 
 pub returns-in_err-row-in-Pull : goal.returns-in_err-row-in-Pull
 returns-in_err-row-in-Pull g c =
     let p = err_from_is_err_and c.from_residual-in_err-row-in-Pull.result c.from_residual-in_err-row-in-Pull.ensures.1 in
     let form = g.V.Written.form in
-    let ws = left c.args.self.now.reader in
-    rw (p.1, p.2) (refuses_map c.in_err-row-in-Pull.field-0.0 _ _ (λ none. subst (λ v. Unsayable form c.args.self.now.count v ws) (sym c.in-Pull.is) (pull-none form c.args.self.now.count ws none)) c.in_err-row-in-Pull.ensures.read)
+    let ws = left c.args.self.reader in
+    rw (p.1, p.2) (refuses_map c.in_err-row-in-Pull.field-0.0 _ _ (λ none. subst (λ v. Unsayable form c.args.self.count v ws) (sym c.in-Pull.is) (pull-none form c.args.self.count ws none)) c.in_err-row-in-Pull.ensures.read)
 
 pub returns-in_err-end : goal.returns-in_err-end
 returns-in_err-end g c =
     let p = err_from_is_err_and c.from_residual-in_err-end.result c.from_residual-in_err-end.ensures.1 in
     let form = g.V.Written.form in
-    let count = c.args.self.now.count in
-    let ws = left c.args.self.now.reader in
+    let count = c.args.self.count in
+    let ws = left c.args.self.reader in
     let begun : Begun form count c.args.verb ws (left c.match-verb.self.reader) (said {V = g.row.V.Denot} c.match-verb.line) = elim c.match-verb.branch [
       | in-Bind+in_ok-row-in-Bind+in_ok-one-in-Bind w ↦
           begun_at form count _ _ ws _ _ _ _ (begun-bind form count ws (left w.row.new.self.reader) (left w.one.new.self.reader) (vec_items w.in_ok-row-in-Bind.field-0) w.in_ok-one-in-Bind.field-0 w.in_ok-row-in-Bind.ensures.read w.in_ok-one-in-Bind.ensures.read)
