@@ -3,9 +3,12 @@
 
 #[cfg(test)]
 mod tests {
+    use desk::Fault;
     use kinds::Length;
     use records::{Mark, Refusal, Relation};
+    use series::run;
     use sheets::Sheet;
+    use std::alloc::Global;
 
     const NONE: Relation = Relation {
         coefficients: [0; 48],
@@ -35,6 +38,23 @@ mod tests {
         assert_eq!(rt; opened(48, &mut [SEVEN; 47]), Err(1));
         assert_eq!(rt; opened(49, &mut [SEVEN; 48]), Err(2));
         assert_eq!(rt; opened(49, &mut [SEVEN; 47]), Err(1));
+    }
+
+    // What a series of no calls on a sheet of `count` parameters gives; 0 where there is no memory.
+    fn ran(heap: Global, count: usize) -> Result<(), u8> {
+        match run::<Length>(heap, count, &[]) {
+            Ok(_) => Ok(()),
+            Err(Fault::Refused(refusal)) => Err(refusal.number()),
+            Err(Fault::Memory) => Err(0),
+        }
+    }
+
+    #[test]
+    fn series_on_one_to_forty_eight_parameters(rt: HostRuntime) {
+        assert_eq!(rt; ran(rt.alloc(), 0), Err(2));
+        assert_eq!(rt; ran(rt.alloc(), 1), Ok(()));
+        assert_eq!(rt; ran(rt.alloc(), 48), Ok(()));
+        assert_eq!(rt; ran(rt.alloc(), 49), Err(2));
     }
 
     // What binding x = q gives, where x is 47,560 over 1.
