@@ -1,29 +1,18 @@
--- What an accepted and a refused outcome say.
-use Rattle.std.proofs.Common.{◌≡◌, Bool, true, false, IfOk, Ok, Err, Result, sym, refl, ap, subst, true≢false}
+-- What an accepted and a refused outcome of one test say.
+use Rattle.std.proofs.Common.{◌≡◌, Bool, true, ◌⊎◌, false, Ok, Err, sym, inl, inr}
 use Rattle.records.specs.Outcomes.{guard}
 use Rattle.records.specs.declared.refusal.Refusal.{Refusal}
-
-accepted : {A : Type 0} → Result A Refusal → Bool
-accepted (Ok x) = true
-accepted (Err e) = false
-
-out : {A : Type 0} → A → Result A Refusal → A
-out a (Ok x) = x
-out a (Err e) = a
-
-refusal : {A : Type 0} → Refusal → Result A Refusal → Refusal
-refusal r (Ok x) = r
-refusal r (Err e) = e
+use Rattle.linear.proofs.Outcomes.{not_accepted, passed, refused_by}
 
 pub guard_ok : {A : Type 0} (b : Bool) (e : Refusal) (a x : A) → Ok x ≡ guard b e (Ok a) → (x ≡ a) × (b ≡ false)
-unfolding accepted out
-guard_ok true e a x h = absurd (true≢false (ap accepted h))
-guard_ok false e a x h = (ap (out a) h, refl)
+guard_ok b e a x h =
+    let p = passed b e (Ok a) x (sym h) in
+    let same : x ≡ a = cc in
+    (same, p.0)
 
 pub guard_err : {A : Type 0} (b : Bool) (e : Refusal) (a : A) (x : Refusal) → Err x ≡ guard b e (Ok a) → (x ≡ e) × (b ≡ true)
-unfolding accepted refusal
-guard_err true e a x h = (ap (refusal e) h, refl)
-guard_err false e a x h = absurd (true≢false (sym (ap accepted h)))
-
-pub not_made : {A : Type 0} (r : Result A Refusal) (x : Refusal) → r ≡ Err x → (P : A → Type 0) → IfOk r P
-not_made r x e P = subst (λ (z : Result _ Refusal). IfOk z P) (sym e) tt
+guard_err b e a x h = by (refused_by b e (Ok a) x (sym h))
+  where
+    by : ((b ≡ true) × (e ≡ x)) ⊎ ((b ≡ false) × (Ok a ≡ Err x)) → (x ≡ e) × (b ≡ true)
+    by (inl t) = (sym t.1, t.0)
+    by (inr f) = absurd (not_accepted x a (sym f.1))

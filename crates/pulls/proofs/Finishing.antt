@@ -1,5 +1,5 @@
 -- What the common multiple and the lowest terms say of a pull.
-use Rattle.std.proofs.Common.{◌≡◌, ℕ, Bool, true, false, cond, List, ltb, length, ℤ, pos, ◌*ℤ◌, Ok, Err, Result, sym, refl, ap, ◌∙◌, true≢false}
+use Rattle.std.proofs.Common.{◌≡◌, ℕ, Bool, true, false, cond, List, ℤ, pos, ◌*ℤ◌, Ok, Err, Result, sym, refl, ap, ◌∙◌, true≢false}
 use lib.Signed.{lt_z}
 use Rattle.records.specs.Outcomes.{guard, onward}
 use Rattle.records.specs.declared.refusal.Refusal.{Refusal}
@@ -7,14 +7,8 @@ use Rattle.records.specs.declared.refusal.Refusal.TheVariants.{Unfit, TooFine, O
 use Rattle.rules.specs.Values.{Coords}
 use Rattle.rules.specs.Sheets.{bad_denominator, bad_values}
 use Rattle.rules.specs.Pulling.{Placing, lowest, settled}
-use Rattle.fractions.specs.Multiple.{multiple}
 use Rattle.fractions.specs.Settling.{settling}
-use Rattle.fractions.proofs.Refusing.{guard_ok}
 use Rattle.pulls.specs.Steps.{placed}
-
--- the multiple that was accepted
-pub accepted : (ps : List ℕ) (l : ℕ) → Ok l ≡ guard (ltb 2147483647 (multiple (length ps) ps)) TooFine (Ok (multiple (length ps) ps)) → (l ≡ multiple (length ps) ps) × (ltb 2147483647 (multiple (length ps) ps) ≡ false)
-accepted ps l h = guard_ok (ltb 2147483647 (multiple (length ps) ps)) TooFine (multiple (length ps) ps) l h
 
 -- the list that was settled is the placing
 pub settled_is : (size n l : ℕ) (d : ℤ) (us : List Coords) → bad_denominator d ≡ false → (r : Result ℤ Refusal) (xs : List Coords) → (r, xs) ≡ settling size n l d us → placed r xs ≡ settled size n (lowest size n (pos l *ℤ d) us)

@@ -37,4 +37,3 @@ module _ (n : ℕ) (rs : List Relation) (qs : List Coords) (rows : List ℕ) whe
         ∙ ap₂ (λ (x y : ℤ). d *ℤ at (get_or qs (get_or rows i 0) []) c -ℤ d *ℤ x -ℤ y)
         (sum_ext n (λ s b. ap (λ (z : ℤ). if_moving (role roles s) (z *ℤ coord wishes s c)) (picked_coef i s l b)))
         (sum_ext n (λ s b. ap (λ (z : ℤ). if_held (role roles s) (z *ℤ coord values s c)) (picked_coef i s l b))))
-    -- what was found for row i

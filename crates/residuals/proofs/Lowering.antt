@@ -1,5 +1,5 @@
 -- Diagonal numbers and what their rows carry, in lowest terms.
-use Rattle.std.proofs.Common.{◌≡◌, ℕ, zero, suc, ◌+◌, ◌/◌, ◌<◌, Bool, true, false, cond, not, ◌&&◌, eqb, ltb, List, [], ◌∷◌, length, get_or, ℤ, pos, ◌*ℤ◌, nat_abs, Ok, Err, Result, sym, refl, ap, ◌∙◌, ap₂, true≢false, arith}
+use Rattle.std.proofs.Common.{◌≡◌, ℕ, zero, suc, ◌+◌, ◌/◌, ◌<◌, Bool, true, false, cond, not, ◌&&◌, eqb, ltb, List, [], ◌∷◌, length, get_or, ℤ, pos, ◌*ℤ◌, nat_abs, Ok, Err, Result, sym, refl, ap, ◌∙◌, ap₂, arith}
 use native.Mathlib.Nat.{zero-div}
 use lib.Signed.{quot_z}
 use Rattle.std.proofs.lemmas.Bool.{lt-ltb, ne_eqb}
@@ -18,6 +18,7 @@ use Rattle.rules.specs.Gripping.{is_needed}
 use Rattle.rules.specs.Pulling.{carried, divisors, lowered, lowered_sums}
 use Rattle.sheets.proofs.Gaps.{above-nonzero}
 use Rattle.fractions.specs.Steps.{divisor_from, quotients}
+use Rattle.fractions.proofs.Refusing.{guard_ok, guard_err}
 use Rattle.residuals.specs.Steps.{lower, carried_at}
 use Rattle.whole.specs.Gcd.{gcd_all}
 use Rattle.fractions.proofs.Placed.{tabbed}
@@ -51,38 +52,14 @@ module _ (size p : ℕ) (us : Coords) where
   lower-needed h q vs e f =
       ap₂ (λ (a : ℕ) (b : Coords). Ok (a, b)) e f ∙ sym (ap (λ (a : Bool). result (a && any size (λ c. nonzero (at us c)))) (ne_eqb p 0 (λ z. omega arith)))
 
-  out-number : Result (ℕ × Coords) Refusal → ℕ
-  out-number (Ok x) = x.0
-  out-number (Err e) = 0
-
-  out_sums : Result (ℕ × Coords) Refusal → Coords
-  out_sums (Ok x) = x.1
-  out_sums (Err e) = []
-
-  out_refusal : Result (ℕ × Coords) Refusal → Refusal
-  out_refusal (Ok x) = Impossible
-  out_refusal (Err e) = e
-
-  accepted : Result (ℕ × Coords) Refusal → Bool
-  accepted (Ok x) = true
-  accepted (Err e) = false
-
   -- what an accepted row and a refused one say
   pub lower_ok : (q : ℕ) (vs : Coords) → Ok (q, vs) ≡ lower size p us → (q ≡ p / divisor_from p us) × (vs ≡ quotients size us (pos (divisor_from p us))) × ((eqb p 0 && any size (λ c. nonzero (at us c))) ≡ false)
-  unfolding result accepted out-number out_sums
-  lower_ok q vs h = by (eqb p 0 && any size (λ c. nonzero (at us c))) h
-    where
-      by : (b : Bool) → Ok (q, vs) ≡ result b → (q ≡ p / divisor_from p us) × (vs ≡ quotients size us (pos (divisor_from p us))) × (b ≡ false)
-      by true e = absurd (true≢false (ap accepted e))
-      by false e = (ap out-number e, ap out_sums e, refl)
+  lower_ok q vs h =
+      let r = guard_ok (eqb p 0 && any size (λ c. nonzero (at us c))) Impossible (p / divisor_from p us, quotients size us (pos (divisor_from p us))) (q, vs) h in
+      (ap (λ (x : ℕ × Coords). x.0) r.0, ap (λ (x : ℕ × Coords). x.1) r.0, r.1)
 
   pub lower_err : (x : Refusal) → Err x ≡ lower size p us → (x ≡ Impossible) × ((eqb p 0 && any size (λ c. nonzero (at us c))) ≡ true)
-  unfolding result accepted out_refusal
-  lower_err x h = by (eqb p 0 && any size (λ c. nonzero (at us c))) h
-    where
-      by : (b : Bool) → Err x ≡ result b → (x ≡ Impossible) × (b ≡ true)
-      by true e = (ap out_refusal e, refl)
-      by false e = absurd (true≢false (sym (ap accepted e)))
+  lower_err x h = guard_err (eqb p 0 && any size (λ c. nonzero (at us c))) Impossible (p / divisor_from p us, quotients size us (pos (divisor_from p us))) x h
 
 -- the rows of a table over the residuals cs
 module _ (size m : ℕ) (t : Grid) (cs : List Coords) where

@@ -78,11 +78,6 @@ module _ (size m : ℕ) (t : Grid) (cs found : List Coords) (ps : List ℕ) (us 
   unfolding outcome
   by large e = ap₂ outcome (λ i. not (eq-eqb (length found) m a i) || not (eq-eqb (length ps) m b i) || not (eq-eqb (length us) m c i)) e
 
-  -- a residual is too large
-  pub gaps_told : some_above 300000000 size m cs ≡ true → (r : Result (Unit {0}) Refusal) (xs : List Coords) → (r, xs) ≡ residuals_written size m cs found → (r, xs, ps, us) ≡ rows_written size m t cs found ps us
-  unfolding outcome
-  gaps_told e r xs h = ap (λ (z : Result (Unit {0}) Refusal × List Coords). (z.0, z.1, ps, us)) h ∙ sym (by true e)
-
   pub rows_told : some_above 300000000 size m cs ≡ false → (r : Result (Unit {0}) Refusal) (xs : List Coords) (qs : List ℕ) (ys : List Coords) → xs ≡ cs → (r, qs, ys) ≡ carried_written size m t cs ps us
       → (r, xs, qs, ys) ≡ rows_written size m t cs found ps us
   unfolding outcome

@@ -10,12 +10,13 @@ use Rattle.rules.specs.Sheets.{bad_denominator}
 use Rattle.rules.specs.Pulling.{Placing, lowest, settled, some_above}
 use Rattle.workings.specs.Shown.{shown}
 use Rattle.fractions.specs.declared.multiple.Multiple.{Multiple}
-use Rattle.fractions.specs.Multiple.{strays}
+use Rattle.fractions.specs.Multiple.{multiple, strays}
 use Rattle.fractions.specs.Settling.{settling}
 use Rattle.fractions.proofs.Multiplied.{all_stay}
+use Rattle.fractions.proofs.Refusing.{guard_ok}
 use Rattle.pulls.specs.Finish.{all_multiplied, numerators_by}
 use Rattle.pulls.proofs.Within.{within}
-use Rattle.pulls.proofs.Finishing.{accepted, settled_is}
+use Rattle.pulls.proofs.Finishing.{settled_is}
 use Rattle.pulls.proofs.finish.finish.Goals as goal
 
 pub write_numerators-requires : goal.write_numerators-requires
@@ -50,7 +51,7 @@ returns g c =
     let same : length ps ≡ length us = c.requires.numbers ∙ sym (length-map c.args.sums.now f ∙ c.requires.sums) in
     let s = all_stay size l ps us same (map f c.multiply.new.sums) (ap (λ r. (r, map f c.multiply.new.sums)) (sym c.in_ok-multiply.was) ∙ c.multiply.ensures) in
     let number : Result Multiple Refusal → Result ℕ Refusal = λ r. image (λ m. m.l) r in
-    let a = accepted ps l (sym (ap number c.in_ok-multiple.was) ∙ c.of.ensures) in
+    let a = guard_ok (ltb 2147483647 (multiple (length ps) ps)) TooFine (multiple (length ps) ps) l (sym (ap number c.in_ok-multiple.was) ∙ c.of.ensures) in
     let fd : SFits w64 t.d = search rules in
     let fine = (or_parts (ltb (length vs) n) _ (or_parts (ltb (length vs) n || bad_denominator t.d) _ t.fit).0).1 in
     let made = c.write_numerators.ensures ∙ ap (numerators_by size n w.roles w.shares l t.d vs ws t.relations.now t.rows.now) s.1 in
