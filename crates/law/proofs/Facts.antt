@@ -5,7 +5,7 @@ use Rattle.std.proofs.Math.Seq.{get_or-append_seam, split_at}
 use Rattle.std.proofs.lemmas.List.{get_or_append_left, take_more}
 use Rattle.std.proofs.lemmas.Bool.{true_from_ne_false, not-false, ltb-false}
 use Rattle.whole.specs.Lists.{at}
-use Rattle.whole.specs.Sums.{sum}
+use Rattle.whole.specs.Sums.{sum_below}
 use Rattle.whole.specs.Tests.{nonzero}
 use Rattle.whole.proofs.Lists.{tab-length}
 use Rattle.whole.proofs.Sums.{sum_ext}
@@ -116,7 +116,7 @@ module _ (n : ℕ) (roles : List Role) (good : bad_roles n roles ≡ false) (a :
   own : (s : ℕ) → coef rows (length a) s ≡ at r.coefs s
   own s = ap (λ (x : Bond). at x.coefs s) (get_or-append_seam a r b no_bond)
 
-  others : (y : ℕ → ℤ) (s : ℕ) → sum (length a) (λ j. y j *ℤ coef rows j s) ≡ sum (length a) (λ j. y j *ℤ coef a j s)
+  others : (y : ℕ → ℤ) (s : ℕ) → sum_below (length a) (λ j. y j *ℤ coef rows j s) ≡ sum_below (length a) (λ j. y j *ℤ coef a j s)
   others y s = sum_ext (length a) (λ j l. ap (λ (x : Bond). y j *ℤ at x.coefs s) (get_or_append_left a (r ∷ b) no_bond j l))
 
   spare-split : (entry (table_after n roles rows (length rows)) (length a) (length a) ≡ pos 0) ↔ Combination n roles a r

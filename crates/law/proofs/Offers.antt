@@ -3,7 +3,7 @@ use Rattle.std.proofs.Common.{◌≡◌, ℕ, ◌+◌, ◌<◌, false, ◌⊎◌
 use borrow.Author.Differences.{ints}
 use Rattle.std.proofs.lemmas.Bool.{not-false}
 use Rattle.whole.specs.Lists.{at, coord}
-use Rattle.whole.specs.Sums.{sum}
+use Rattle.whole.specs.Sums.{sum_below}
 use Rattle.whole.proofs.Integers.{*->0, cancel-*, cancel-<}
 use Rattle.whole.proofs.Lists.{at-tab}
 use Rattle.whole.proofs.Ring.{v, k, ◌⊕◌, ◌⊖◌, ◌⊗◌, ring}
@@ -68,8 +68,8 @@ module _ (size n : ℕ) (roles : List Role) (bs : List Bond) (d : ℤ) (values w
   -- ---- the residuals and what they carry
   residual_is : (i : ℕ) → i < m → (c : ℕ) → c < size → coord (residuals size n roles rs d values wishes) i c ≡ lack i c
   residual_is i l c b =
-      coord-grid m size (λ i c. d *ℤ const rs i c -ℤ d *ℤ sum n (λ s. if_moving (role roles s) (coef rs i s *ℤ coord wishes s c)) -ℤ sum n (λ s. if_held (role roles s) (coef rs i s *ℤ coord values s c))) i l c b
-      ∙ ring ((d *ℤ const rs i c) ∷ (d *ℤ sum n moving) ∷ sum n helds ∷ []) (v 0 ⊖ v 1 ⊖ v 2) (v 0 ⊖ (v 1 ⊕ v 2)) tt
+      coord-grid m size (λ i c. d *ℤ const rs i c -ℤ d *ℤ sum_below n (λ s. if_moving (role roles s) (coef rs i s *ℤ coord wishes s c)) -ℤ sum_below n (λ s. if_held (role roles s) (coef rs i s *ℤ coord values s c))) i l c b
+      ∙ ring ((d *ℤ const rs i c) ∷ (d *ℤ sum_below n moving) ∷ sum_below n helds ∷ []) (v 0 ⊖ v 1 ⊖ v 2) (v 0 ⊖ (v 1 ⊕ v 2)) tt
       ∙ ap (λ x. d *ℤ const rs i c -ℤ x) (sym whole)
     where
       moving : ℕ → ℤ
@@ -78,20 +78,20 @@ module _ (size n : ℕ) (roles : List Role) (bs : List Bond) (d : ℤ) (values w
       helds : ℕ → ℤ
       helds s = if_held (role roles s) (coef rs i s *ℤ coord values s c)
 
-      whole : dot n (coef rs i) (λ s. base s c) ≡ d *ℤ sum n moving +ℤ sum n helds
+      whole : dot n (coef rs i) (λ s. base s c) ≡ d *ℤ sum_below n moving +ℤ sum_below n helds
       whole = sum_ext n (λ s u. split (role roles s) d (coef rs i s) (coord values s c) (coord wishes s c))
-          ∙ sum_add n (λ s. d *ℤ moving s) helds ∙ ap (λ x. x +ℤ sum n helds) (sum_scale n d moving)
+          ∙ sum_add n (λ s. d *ℤ moving s) helds ∙ ap (λ x. x +ℤ sum_below n helds) (sum_scale n d moving)
 
   pub carried_is : (t : Grid) (i : ℕ) → i < m → (c : ℕ) → c < size → coord (carried size m t (residuals size n roles rs d values wishes)) i c ≡ Low.carried m t lack i c
-  carried_is t i l c b = coord-grid m size (λ i c. sum m (λ j. entry t i (m + j) *ℤ coord (residuals size n roles rs d values wishes) j c)) i l c b
+  carried_is t i l c b = coord-grid m size (λ i c. sum_below m (λ j. entry t i (m + j) *ℤ coord (residuals size n roles rs d values wishes) j c)) i l c b
       ∙ sum_ext m (λ j u. ap (λ x. entry t i (m + j) *ℤ x) (residual_is j u c b))
 
   -- ---- the numerators
   pub numerators_are : (l : ℕ) (xs : List Coords) (s : ℕ) → s < n → (c : ℕ) → c < size
       → coord (numerators size n roles (shares n roles) rs l d values wishes xs) s c ≡ Low.placed m V (coef rs) (pos l) base (λ i c. coord xs i c) s c
   numerators_are l xs s u c b =
-      coord-grid n size (λ s c. numerator (role roles s) (pos l) d (coord values s c) (coord wishes s c) (at (shares n roles) s) (sum m (λ i. coord xs i c *ℤ coef rs i s))) s u c b
-      ∙ numerator_is (role roles s) (pos l) d (coord values s c) (coord wishes s c) (at (shares n roles) s) (sum m (λ i. coord xs i c *ℤ coef rs i s)) (at-tab n V s u)
+      coord-grid n size (λ s c. numerator (role roles s) (pos l) d (coord values s c) (coord wishes s c) (at (shares n roles) s) (sum_below m (λ i. coord xs i c *ℤ coef rs i s))) s u c b
+      ∙ numerator_is (role roles s) (pos l) d (coord values s c) (coord wishes s c) (at (shares n roles) s) (sum_below m (λ i. coord xs i c *ℤ coef rs i s)) (at-tab n V s u)
 
   module _ (weights : (s : ℕ) → s < n → bad_weight (role roles s) ≡ false) where
     pub weighted : Low.Weighted n (pos 12) W V
@@ -105,7 +105,7 @@ module _ (size n : ℕ) (roles : List Role) (bs : List Bond) (d : ℤ) (values w
       module _ (z : Placing) (M : Meets size n bs roles kept wishes z) where
         pub meets_there : Low.Meets size n m (coef rs) (const rs) z.over (coord z.nums)
         meets_there j l c b = let h = among n roles bs j l in
-            subst (λ (r : Bond). sum n (λ s. at r.coefs s *ℤ coord z.nums s c) ≡ z.over *ℤ at r.constant c) h.2 (M.relations h.0 h.1 c b)
+            subst (λ (r : Bond). sum_below n (λ s. at r.coefs s *ℤ coord z.nums s c) ≡ z.over *ℤ at r.constant c) h.2 (M.relations h.0 h.1 c b)
 
         pub agrees_there : Low.Agrees size n V d base z.over (coord z.nums)
         agrees_there s l e c b = ⊎_elim
@@ -126,8 +126,8 @@ module _ (size n : ℕ) (roles : List Role) (bs : List Bond) (d : ℤ) (values w
 
         -- a relation that does not count has held parameters alone, and held before
         idle : (b : Bond) → ((s : ℕ) → s < n → (role roles s ≡ Held) ⊎ (at b.coefs s ≡ pos 0)) → (c : ℕ) → c < size
-            → sum n (λ s. at b.coefs s *ℤ coord kept.nums s c) ≡ kept.over *ℤ at b.constant c → sum n (λ s. at b.coefs s *ℤ coord z.nums s c) ≡ e *ℤ at b.constant c
-        idle b only c l before = cancel-* d (sum n (λ s. at b.coefs s *ℤ coord z.nums s c)) (e *ℤ at b.constant c) d>0
+            → sum_below n (λ s. at b.coefs s *ℤ coord kept.nums s c) ≡ kept.over *ℤ at b.constant c → sum_below n (λ s. at b.coefs s *ℤ coord z.nums s c) ≡ e *ℤ at b.constant c
+        idle b only c l before = cancel-* d (sum_below n (λ s. at b.coefs s *ℤ coord z.nums s c)) (e *ℤ at b.constant c) d>0
             (sym (sum_scale n d (λ s. at b.coefs s *ℤ coord z.nums s c))
             ∙ sum_ext n (λ s u. ⊎_elim
             (λ r. ring (d ∷ at b.coefs s ∷ coord z.nums s c ∷ []) (v 0 ⊗ (v 1 ⊗ v 2)) (v 1 ⊗ (v 0 ⊗ v 2)) tt ∙ ap (λ x. at b.coefs s *ℤ x) (held s u r c l)
@@ -142,7 +142,7 @@ module _ (size n : ℕ) (roles : List Role) (bs : List Bond) (d : ℤ) (values w
         meets_here = record {
           shaped = shaped;
           relations = λ i u c l. ⊎_elim
-              (λ h. subst (λ (r : Bond). sum n (λ s. at r.coefs s *ℤ coord z.nums s c) ≡ e *ℤ at r.constant c) h.2 (meets h.0 h.1 c l))
+              (λ h. subst (λ (r : Bond). sum_below n (λ s. at r.coefs s *ℤ coord z.nums s c) ≡ e *ℤ at r.constant c) h.2 (meets h.0 h.1 c l))
               (λ h. idle (get_or bs i no_bond) (idle_at n roles (get_or bs i no_bond) h) c l (holds i u c l))
               (counts_or_not n roles bs i u);
           helds = λ s l r c b. ap (λ x. x *ℤ coord z.nums s c) (sym over_is) ∙ held s l r c b;

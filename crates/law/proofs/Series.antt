@@ -1,7 +1,7 @@
 -- Every series of calls makes a history, and a small one with an accepted pull and a keep.
 use Rattle.std.proofs.Common.{List, [], ◌∷◌, pos, Ok, Err, refl, ap}
 use Rattle.std.proofs.lemmas.List.Sorted.{IsPermutation-refl}
-use Rattle.whole.specs.Sums.{sum}
+use Rattle.whole.specs.Sums.{sum_below}
 use Rattle.rules.specs.Limits.{most_relations, most_counted, working_places}
 use Rattle.rules.specs.Values.{zeros}
 use Rattle.rules.specs.Runs.{Call, nothing, spares, placing, Reply, step, Answers}
@@ -24,7 +24,7 @@ series_made size u (k ∷ ks) =
     ((record { reply = itself x.reply; values = refl; d = refl }, h.0), ap (λ (l : List Call). k ∷ l) h.1)
 
 small-history : Made 1 small_use small
-unfolding sum
+unfolding sum_below
 small-history = (record { reply = refl; values = refl; d = refl }, (record { reply = ([], refl, IsPermutation-refl []); values = refl; d = refl }, (record { reply = refl; values = refl; d = refl }, (record { reply = refl; values = refl; d = refl }, tt))))
 
 pub small_made : SmallMade

@@ -5,7 +5,7 @@ use Rattle.std.proofs.lemmas.List.Edits.{length-remove, get_or-remove_below, get
 use Rattle.std.proofs.lemmas.List.{get_or_append_left, get_or_push, length_push}
 use Rattle.std.proofs.lemmas.Bool.{cond_both, or_parts, cases_lt}
 use Rattle.whole.specs.Lists.{at, coord}
-use Rattle.whole.specs.Sums.{sum}
+use Rattle.whole.specs.Sums.{sum_below}
 use Rattle.whole.proofs.Lists.{tab-length}
 use Rattle.whole.proofs.Sums.{sum_ext}
 use Rattle.whole.proofs.Tests.{any_false, differ_false}
@@ -57,10 +57,10 @@ module _ (size n : ℕ) (t : Told) (u : Use) (S : Standing size n t u) where
   bs = bonds s u.relations u.constants
 
   -- a relation that holds for the sheet's values holds for the kept values
-  for_kept : (b : Bond) → ((c : ℕ) → c < size → sum s.count (λ p. at b.coefs p *ℤ coord u.values p c) ≡ s.d *ℤ at b.constant c) → Holds size n t.kept b
+  for_kept : (b : Bond) → ((c : ℕ) → c < size → sum_below s.count (λ p. at b.coefs p *ℤ coord u.values p c) ≡ s.d *ℤ at b.constant c) → Holds size n t.kept b
   for_kept b h c l =
       sum_ext n (λ p k. ap (λ x. at b.coefs p *ℤ x) (sym (kept-nums size n t u S p k c l)))
-      ∙ ap (λ (N : ℕ). sum N (λ p. at b.coefs p *ℤ coord u.values p c)) (sym S.count_is)
+      ∙ ap (λ (N : ℕ). sum_below N (λ p. at b.coefs p *ℤ coord u.values p c)) (sym S.count_is)
       ∙ h c l ∙ ap (λ x. x *ℤ at b.constant c) S.over_is
 
   -- without a grip it stands too

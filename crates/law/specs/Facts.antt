@@ -1,7 +1,7 @@
 -- What a grip's table, marks and workings mean, and what a pull with them gives.
 use Rattle.std.specs.Prelude.{◌≡◌, ℕ, ◌<◌, ◌≤◌, true, false, ◌≢◌, ◌↔◌, List, [], length, take, ℤ, pos, ◌*ℤ◌, ◌≤ℤ◌, Ok, slice_index_or}
 use Rattle.whole.specs.Lists.{at}
-use Rattle.whole.specs.Sums.{sum}
+use Rattle.whole.specs.Sums.{sum_below}
 use Rattle.linear.specs.Elimination.{Grid, entry, start, steps, beyond}
 use Rattle.linear.specs.Meaning.{Meaning}
 use Rattle.records.specs.declared.relation.Mark.TheVariants.{Spare}
@@ -54,7 +54,7 @@ AcceptedGrip = (size : ℕ) (s : Sheet) (vs : List Coords) (rs : List Relation) 
 -- The loose coefficients of a relation are a rational combination, y over e, of those of the relations bs.
 abbrev pub Combination : ℕ → List Role → List Bond → Bond → Type 0
 Combination n roles bs b = (e : ℤ) × (y : ℕ → ℤ) × (e ≢ pos 0)
-    × ((s : ℕ) → s < n → is_loose (role roles s) ≡ true → e *ℤ at b.coefs s ≡ sum (length bs) (λ j. y j *ℤ coef bs j s))
+    × ((s : ℕ) → s < n → is_loose (role roles s) ≡ true → e *ℤ at b.coefs s ≡ sum_below (length bs) (λ j. y j *ℤ coef bs j s))
 
 -- After an accepted grip relation i is marked spare exactly when it counts and its loose coefficients are a rational combination of those of earlier relations that count.
 abbrev pub SpareExactly : Type 0

@@ -1,7 +1,7 @@
 -- Placings of n parameters with `size` coordinates each, and which of two is nearer to the wishes.
 use Rattle.std.specs.Prelude.{◌≡◌, ℕ, ◌<◌, List, [], length, ℤ, pos, ◌-ℤ◌, ◌*ℤ◌, ◌<ℤ◌, slice_index_or}
 use Rattle.whole.specs.Lists.{tab, at, coord}
-use Rattle.whole.specs.Sums.{sum}
+use Rattle.whole.specs.Sums.{sum_below}
 use Rattle.records.specs.declared.role.Role.{Role}
 use Rattle.records.specs.declared.role.Role.TheVariants.{Held, Pulled, Loose}
 use Rattle.rules.specs.Values.{Coords}
@@ -21,7 +21,7 @@ Same size n p z = (s : ℕ) → s < n → (c : ℕ) → c < size → z.over *ℤ
 
 -- A relation holds: in each coordinate the sum of coefficient × value is the constant.
 abbrev pub Holds : ℕ → ℕ → Placing → Bond → Type 0
-Holds size n p b = (c : ℕ) → c < size → sum n (λ s. at b.coefs s *ℤ coord p.nums s c) ≡ p.over *ℤ at b.constant c
+Holds size n p b = (c : ℕ) → c < size → sum_below n (λ s. at b.coefs s *ℤ coord p.nums s c) ≡ p.over *ℤ at b.constant c
 
 -- Every relation of a list holds.
 abbrev pub AllHold : ℕ → ℕ → List Bond → Placing → Type 0
@@ -46,7 +46,7 @@ off size wishes z s = tab size (λ c. coord z.nums s c -ℤ z.over *ℤ coord wi
 
 -- The sum over the loose of weight × squared distance to the wish, times the square of the denominator.
 abbrev pub cost : ℕ → (Coords → Coords → ℤ) → ℕ → List Role → List Coords → Placing → ℤ
-cost size inner n roles wishes z = sum n (λ s. weight_of (role roles s) *ℤ inner (off size wishes z s) (off size wishes z s))
+cost size inner n roles wishes z = sum_below n (λ s. weight_of (role roles s) *ℤ inner (off size wishes z s) (off size wishes z s))
 
 -- That sum is strictly less for p than for z: S × e'² < S' × e², with S over the square of e for p, and S' over the square of e' for z.
 abbrev pub Nearer : ℕ → (Coords → Coords → ℤ) → ℕ → List Role → List Coords → Placing → Placing → Type 0

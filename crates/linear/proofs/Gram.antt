@@ -1,7 +1,7 @@
 -- Laws of dot products and of the weighted Gram matrix, and why a pivot is never negative.
 use Rattle.std.proofs.Common.{◌≡◌, ℕ, ◌<◌, ◌≢◌, ◌⊎◌, [], ◌∷◌, ℤ, pos, ◌+ℤ◌, ◌-ℤ◌, ◌*ℤ◌, ◌≤ℤ◌, ◌<ℤ◌, sym, ap, ◌∙◌, subst, ⊎_elim}
 use lib.IntN.{*ℤ-zero, zero-*ℤ, *ℤ_comm}
-use Rattle.whole.specs.Sums.{sum}
+use Rattle.whole.specs.Sums.{sum_below}
 use Rattle.whole.proofs.Integers.{≥0-by}
 use Rattle.whole.proofs.Ring.{v, k, ◌⊕◌, ◌⊖◌, ◌⊗◌, ring}
 use Rattle.whole.proofs.Sums.{sum_ext, sum_zero, sum_add, sum_scale, sum_scale_r, sum_swap, sum_single, squares-≥0, squares-0}
@@ -30,7 +30,7 @@ module _ (n m : ℕ) (w : ℕ → ℤ) (R : ℕ → ℕ → ℤ) where
   gram_sym i j = sum_ext n (λ s l. ap (λ z. w s *ℤ z) (*ℤ_comm (R i s) (R j s)))
 
   -- (x N) j is the weighted product of the combination with row j
-  pub times_gram_is : (x : ℕ → ℤ) (j : ℕ) → times_gram n m w R x j ≡ sum n (λ s. w s *ℤ (comb m R x s *ℤ R j s))
+  pub times_gram_is : (x : ℕ → ℤ) (j : ℕ) → times_gram n m w R x j ≡ sum_below n (λ s. w s *ℤ (comb m R x s *ℤ R j s))
   times_gram_is x j =
       sum_ext m (λ i l. sym (sum_scale n (x i) (λ s. w s *ℤ (R i s *ℤ R j s))))
       ∙ sum_swap m n (λ i s. x i *ℤ (w s *ℤ (R i s *ℤ R j s)))
@@ -40,7 +40,7 @@ module _ (n m : ℕ) (w : ℕ → ℤ) (R : ℕ → ℕ → ℤ) where
       ∙ ring (comb m R x s ∷ w s ∷ R j s ∷ []) (v 0 ⊗ (v 1 ⊗ v 2)) (v 1 ⊗ (v 0 ⊗ v 2)) tt)
 
   -- x N y is the weighted product of the two combinations
-  form_is : (x y : ℕ → ℤ) → dot m (times_gram n m w R x) y ≡ sum n (λ s. w s *ℤ (comb m R x s *ℤ comb m R y s))
+  form_is : (x y : ℕ → ℤ) → dot m (times_gram n m w R x) y ≡ sum_below n (λ s. w s *ℤ (comb m R x s *ℤ comb m R y s))
   form_is x y =
       sum_ext m (λ j l. ap (λ z. z *ℤ y j) (times_gram_is x j) ∙ sym (sum_scale_r n (y j) (λ s. w s *ℤ (comb m R x s *ℤ R j s))))
       ∙ sum_swap m n (λ j s. w s *ℤ (comb m R x s *ℤ R j s) *ℤ y j)
@@ -55,7 +55,7 @@ module _ (n m : ℕ) (w : ℕ → ℤ) (R : ℕ → ℕ → ℤ) where
 
   -- x N x, a sum of weighted squares
   unfoldable pub energy : (ℕ → ℤ) → ℤ
-  energy x = sum n (λ s. w s *ℤ (comb m R x s *ℤ comb m R x s))
+  energy x = sum_below n (λ s. w s *ℤ (comb m R x s *ℤ comb m R x s))
 
   pub energy_is : (x : ℕ → ℤ) → dot m (times_gram n m w R x) x ≡ energy x
   unfolding energy

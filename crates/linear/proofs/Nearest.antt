@@ -2,7 +2,7 @@
 use Rattle.std.proofs.Common.{◌≡◌, ℕ, ◌<◌, ◌≢◌, ◌⊎◌, List, [], ◌∷◌, ℤ, pos, ◌+ℤ◌, ◌-ℤ◌, ◌*ℤ◌, ◌≤ℤ◌, ◌<ℤ◌, sym, refl, ap, ◌∙◌, subst, inl, inr, ⊎_elim, arith}
 use lib.IntN.{*ℤ-zero, zero-*ℤ, +ℤ_idr}
 use borrow.Author.Differences.{ints}
-use Rattle.whole.specs.Sums.{sum}
+use Rattle.whole.specs.Sums.{sum_below}
 use Rattle.whole.proofs.Integers.{*-≥0, *-zero, above-0, cancel}
 use Rattle.whole.proofs.Ring.{v, k, ◌⊕◌, ◌⊖◌, ◌⊗◌, ring}
 use Rattle.whole.proofs.Sums.{sum_ext, sum_zero, sum_add, sum_scale, sum_swap, sum-≥0, sum_all-0}
@@ -23,35 +23,35 @@ module _ (size : ℕ) (inner : List ℤ → List ℤ → ℤ) (P : InnerProduct 
 
   -- a: a change whose loose part is v s times a combination of the relations. δ: a change of loose parameters alone that changes no relation.
   module _ (x a δ : ℕ → ℕ → ℤ)
-      (moves : (s : ℕ) → s < n → ((c : ℕ) → c < size → δ s c ≡ pos 0) ⊎ ((w s *ℤ share s ≡ κ) × ((c : ℕ) → c < size → a s c ≡ share s *ℤ sum m (λ i. R i s *ℤ x i c))))
-      (level : (i : ℕ) → i < m → (c : ℕ) → c < size → sum n (λ s. R i s *ℤ δ s c) ≡ pos 0) where
-    cross_term : (s : ℕ) → s < n → w s *ℤ ip (δ s) (a s) ≡ κ *ℤ sum m (λ i. R i s *ℤ ip (δ s) (x i))
+      (moves : (s : ℕ) → s < n → ((c : ℕ) → c < size → δ s c ≡ pos 0) ⊎ ((w s *ℤ share s ≡ κ) × ((c : ℕ) → c < size → a s c ≡ share s *ℤ sum_below m (λ i. R i s *ℤ x i c))))
+      (level : (i : ℕ) → i < m → (c : ℕ) → c < size → sum_below n (λ s. R i s *ℤ δ s c) ≡ pos 0) where
+    cross_term : (s : ℕ) → s < n → w s *ℤ ip (δ s) (a s) ≡ κ *ℤ sum_below m (λ i. R i s *ℤ ip (δ s) (x i))
     cross_term s l = ⊎_elim still loose (moves s l)
       where
-        still : ((c : ℕ) → c < size → δ s c ≡ pos 0) → w s *ℤ ip (δ s) (a s) ≡ κ *ℤ sum m (λ i. R i s *ℤ ip (δ s) (x i))
+        still : ((c : ℕ) → c < size → δ s c ≡ pos 0) → w s *ℤ ip (δ s) (a s) ≡ κ *ℤ sum_below m (λ i. R i s *ℤ ip (δ s) (x i))
         still h =
             ap (λ z. w s *ℤ z) (of_zero size inner P (δ s) (a s) h) ∙ *ℤ-zero (w s)
             ∙ sym (ap (λ z. κ *ℤ z) (sum_zero m (λ i b. ap (λ z. R i s *ℤ z) (of_zero size inner P (δ s) (x i) h) ∙ *ℤ-zero (R i s))) ∙ *ℤ-zero κ)
 
-        loose : (w s *ℤ share s ≡ κ) × ((c : ℕ) → c < size → a s c ≡ share s *ℤ sum m (λ i. R i s *ℤ x i c)) → w s *ℤ ip (δ s) (a s) ≡ κ *ℤ sum m (λ i. R i s *ℤ ip (δ s) (x i))
+        loose : (w s *ℤ share s ≡ κ) × ((c : ℕ) → c < size → a s c ≡ share s *ℤ sum_below m (λ i. R i s *ℤ x i c)) → w s *ℤ ip (δ s) (a s) ≡ κ *ℤ sum_below m (λ i. R i s *ℤ ip (δ s) (x i))
         loose h =
             ap (λ z. w s *ℤ z)
-            (of_sym size inner P (δ s) (a s) ∙ of_ext size inner P (a s) (λ c. share s *ℤ sum m (λ i. R i s *ℤ x i c)) (δ s) h.1
-            ∙ of_times size inner P (share s) (λ c. sum m (λ i. R i s *ℤ x i c)) (δ s)
+            (of_sym size inner P (δ s) (a s) ∙ of_ext size inner P (a s) (λ c. share s *ℤ sum_below m (λ i. R i s *ℤ x i c)) (δ s) h.1
+            ∙ of_times size inner P (share s) (λ c. sum_below m (λ i. R i s *ℤ x i c)) (δ s)
             ∙ ap (λ z. share s *ℤ z) (of_sum size inner P m (λ i c. R i s *ℤ x i c) (δ s)
             ∙ sum_ext m (λ i b. of_times size inner P (R i s) (x i) (δ s) ∙ ap (λ z. R i s *ℤ z) (of_sym size inner P (x i) (δ s)))))
-            ∙ ring (w s ∷ share s ∷ sum m (λ i. R i s *ℤ ip (δ s) (x i)) ∷ []) (v 0 ⊗ (v 1 ⊗ v 2)) (v 0 ⊗ v 1 ⊗ v 2) tt
-            ∙ ap (λ z. z *ℤ sum m (λ i. R i s *ℤ ip (δ s) (x i))) h.0
+            ∙ ring (w s ∷ share s ∷ sum_below m (λ i. R i s *ℤ ip (δ s) (x i)) ∷ []) (v 0 ⊗ (v 1 ⊗ v 2)) (v 0 ⊗ v 1 ⊗ v 2) tt
+            ∙ ap (λ z. z *ℤ sum_below m (λ i. R i s *ℤ ip (δ s) (x i))) h.0
 
     -- the two changes are orthogonal
-    cross : sum n (λ s. w s *ℤ ip (δ s) (a s)) ≡ pos 0
+    cross : sum_below n (λ s. w s *ℤ ip (δ s) (a s)) ≡ pos 0
     cross =
         sum_ext n cross_term
-        ∙ sum_scale n κ (λ s. sum m (λ i. R i s *ℤ ip (δ s) (x i)))
+        ∙ sum_scale n κ (λ s. sum_below m (λ i. R i s *ℤ ip (δ s) (x i)))
         ∙ ap (λ z. κ *ℤ z) (sum_swap n m (λ s i. R i s *ℤ ip (δ s) (x i))
         ∙ sum_zero m (λ i b.
         sum_ext n (λ s l. sym (of_times size inner P (R i s) (δ s) (x i))) ∙ sym (of_sum size inner P n (λ s c. R i s *ℤ δ s c) (x i))
-        ∙ of_zero size inner P (λ c. sum n (λ s. R i s *ℤ δ s c)) (x i) (level i b)))
+        ∙ of_zero size inner P (λ c. sum_below n (λ s. R i s *ℤ δ s c)) (x i) (level i b)))
         ∙ *ℤ-zero κ
 
     pythagoras : squares (λ s c. a s c +ℤ δ s c) ≡ squares a +ℤ squares δ
@@ -106,7 +106,7 @@ module _ (size : ℕ) (inner : List ℤ → List ℤ → ℤ) (P : InnerProduct 
       unfolding δ
       joined s c = ring (e ∷ d ∷ z s c ∷ f ∷ base s c ∷ y s c ∷ []) (v 0 ⊗ (v 1 ⊗ v 2 ⊖ v 3 ⊗ v 1 ⊗ v 4) ⊕ v 1 ⊗ (v 3 ⊗ v 1 ⊗ v 5 ⊖ v 0 ⊗ v 2)) (v 3 ⊗ v 1 ⊗ (v 1 ⊗ v 5 ⊖ v 0 ⊗ v 4)) tt
 
-      moves : (s : ℕ) → s < n → ((c : ℕ) → c < size → δ s c ≡ pos 0) ⊎ ((w s *ℤ share s ≡ κ) × ((c : ℕ) → c < size → mine s c ≡ share s *ℤ sum m (λ i. R i s *ℤ (e *ℤ d *ℤ x i c))))
+      moves : (s : ℕ) → s < n → ((c : ℕ) → c < size → δ s c ≡ pos 0) ⊎ ((w s *ℤ share s ≡ κ) × ((c : ℕ) → c < size → mine s c ≡ share s *ℤ sum_below m (λ i. R i s *ℤ (e *ℤ d *ℤ x i c))))
       unfolding δ
       moves s l = ⊎_elim
           (λ h. inl (λ c b.
@@ -121,7 +121,7 @@ module _ (size : ℕ) (inner : List ℤ → List ℤ → ℤ) (P : InnerProduct 
           ))
           (weighted s l).2
 
-      level : (i : ℕ) → i < m → (c : ℕ) → c < size → sum n (λ s. R i s *ℤ δ s c) ≡ pos 0
+      level : (i : ℕ) → i < m → (c : ℕ) → c < size → sum_below n (λ s. R i s *ℤ δ s c) ≡ pos 0
       unfolding δ
       level i l c b =
           sum_ext n (λ s u. ring (R i s ∷ d ∷ (f *ℤ d *ℤ y s c -ℤ e *ℤ z s c) ∷ []) (v 0 ⊗ (v 1 ⊗ v 2)) (v 1 ⊗ (v 0 ⊗ v 2)) tt)

@@ -4,7 +4,7 @@ use native.Mathlib.Decide.{ℕ_discrete}
 use lib.IntN.{zero-*ℤ, ℤ_discrete}
 use borrow.Author.Differences.{ints}
 use Rattle.whole.specs.Lists.{tab, at}
-use Rattle.whole.specs.Sums.{sum}
+use Rattle.whole.specs.Sums.{sum_below}
 use Rattle.whole.proofs.Integers.{<→≤, not_both}
 use Rattle.whole.proofs.Lists.{tab-length, tab_ext, at-tab}
 use Rattle.whole.proofs.Ring.{v, k, ◌⊕◌, ◌⊗◌, ring}
@@ -57,10 +57,10 @@ module _ (size : ℕ) (inner : List ℤ → List ℤ → ℤ) (P : InnerProduct 
   pub of_zero : (u y : ℕ → ℤ) → ((c : ℕ) → c < size → u c ≡ pos 0) → of u y ≡ pos 0
   of_zero u y h = of_ext u (λ c. pos 0 *ℤ u c) y (λ c l. h c l ∙ sym (zero-*ℤ (u c))) ∙ of_times (pos 0) u y ∙ zero-*ℤ (of u y)
 
-  pub of_sum : (n : ℕ) (f : ℕ → ℕ → ℤ) (y : ℕ → ℤ) → of (λ c. sum n (λ i. f i c)) y ≡ sum n (λ i. of (f i) y)
-  unfolding sum
+  pub of_sum : (n : ℕ) (f : ℕ → ℕ → ℤ) (y : ℕ → ℤ) → of (λ c. sum_below n (λ i. f i c)) y ≡ sum_below n (λ i. of (f i) y)
+  unfolding sum_below
   of_sum zero f y = of_zero (λ c. pos 0) y (λ c l. refl)
-  of_sum (suc n) f y = of_plus (λ c. sum n (λ i. f i c)) (f n) y ∙ ap (λ z. z +ℤ of (f n) y) (of_sum n f y)
+  of_sum (suc n) f y = of_plus (λ c. sum_below n (λ i. f i c)) (f n) y ∙ ap (λ z. z +ℤ of (f n) y) (of_sum n f y)
 
   of->0 : (u : ℕ → ℤ) (c : ℕ) → c < size → u c ≢ pos 0 → pos 0 <ℤ of u u
   of->0 u c l d = P.positive (tab size u) (tab-length size u) (λ e. d (sym (at-tab size u c l) ∙ ap (λ x. at x c) e ∙ at-tab size (λ c. pos 0) c l))
@@ -86,7 +86,7 @@ module _ (size : ℕ) (inner : List ℤ → List ℤ → ℤ) (P : InnerProduct 
 
   -- ---- sums of weighted squares
   abbrev pub total : (n : ℕ) (w : ℕ → ℤ) (u : ℕ → ℕ → ℤ) → ℤ
-  total n w u = sum n (λ s. w s *ℤ of (u s) (u s))
+  total n w u = sum_below n (λ s. w s *ℤ of (u s) (u s))
 
   -- a factor comes out squared; where the weight is 0, nothing is asked
   pub total_scale : (n : ℕ) (w : ℕ → ℤ) (a : ℤ) (u z : ℕ → ℕ → ℤ) → ((s : ℕ) → s < n → (w s ≡ pos 0) ⊎ ((c : ℕ) → c < size → u s c ≡ a *ℤ z s c))

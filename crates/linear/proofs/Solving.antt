@@ -1,7 +1,7 @@
 -- What a table is for, from its meaning alone: the solution of N x = f c, and when there is none.
 use Rattle.std.proofs.Common.{◌≡◌, ℕ, ◌<◌, ◌≢◌, ◌⊎◌, [], ◌∷◌, ℤ, pos, ◌+ℤ◌, ◌-ℤ◌, ◌*ℤ◌, ◌≤ℤ◌, sym, ap, ◌∙◌, ⊎_elim}
 use lib.IntN.{*ℤ-zero, zero-*ℤ, *ℤ_comm, ℤ_discrete}
-use Rattle.whole.specs.Sums.{sum}
+use Rattle.whole.specs.Sums.{sum_below}
 use Rattle.whole.proofs.Integers.{cancel, *-zero, one-*}
 use Rattle.whole.proofs.Ring.{v, k, ◌⊕◌, ◌⊖◌, ◌⊗◌, ring}
 use Rattle.whole.proofs.Sums.{sum_ext, sum_zero, sum_add, sum_scale, sum_scale_r, sum_swap, sum_single}
@@ -97,7 +97,7 @@ placed-meets size n m w R Q t d f base x M X j b c u =
     ∙ (λ a. sum_scale n f (λ s. R j s *ℤ base s c) a +ℤ moved a)
     ∙ ring (f ∷ dot n (R j) (λ s. base s c) ∷ d ∷ Q j c ∷ []) (v 0 ⊗ v 1 ⊕ v 0 ⊗ (v 2 ⊗ v 3 ⊖ v 1)) (v 0 ⊗ v 2 ⊗ v 3) tt
   where
-    moved : sum n (λ s. w s *ℤ (comb m R (λ i. x i c) s *ℤ R j s)) ≡ f *ℤ residual n R Q d base j c
+    moved : sum_below n (λ s. w s *ℤ (comb m R (λ i. x i c) s *ℤ R j s)) ≡ f *ℤ residual n R Q d base j c
     moved =
         sym (times_gram_is n m w R (λ i. x i c) j)
         ∙ sum_ext m (λ i l. ap (λ z. x i c *ℤ z) (gram_sym n m w R i j) ∙ *ℤ_comm (x i c) (gram n w R j i))

@@ -2,7 +2,7 @@
 use Rattle.std.proofs.Common.{◌≡◌, ℕ, ◌<◌, ◌≢◌, [], ◌∷◌, ℤ, pos, negsuc, ◌+ℤ◌, ◌*ℤ◌, ◌≤ℤ◌, sym, ap, ◌∙◌, inr, ⊎_elim, le_refl, arith}
 use lib.IntN.{*ℤ-zero, zero-*ℤ, *ℤ_comm, ℤ_discrete}
 use borrow.Author.Differences.{ints}
-use Rattle.whole.specs.Sums.{sum}
+use Rattle.whole.specs.Sums.{sum_below}
 use Rattle.whole.proofs.Integers.{not_both, cancel-0, *-zero}
 use Rattle.whole.proofs.Ring.{v, k, ◌⊗◌, ring}
 use Rattle.whole.proofs.Sums.{sum_ext, sum_zero, sum_scale, sum_swap, sum_single, sum_until}
@@ -40,9 +40,9 @@ module _ (n m : ℕ) (w : ℕ → ℤ) (R : ℕ → ℕ → ℤ) (t : Grid) (I :
           clash : j < i → ⊥
           clash h = omega arith
 
-      solved : (s : ℕ) → comb m R (B i) s ≡ pos 0 → B i i *ℤ R i s ≡ sum i (λ j. negsuc 0 *ℤ B i j *ℤ R j s)
+      solved : (s : ℕ) → comb m R (B i) s ≡ pos 0 → B i i *ℤ R i s ≡ sum_below i (λ j. negsuc 0 *ℤ B i j *ℤ R j s)
       solved s z =
-          minus (sum i (λ j. B i j *ℤ R j s)) (B i i *ℤ R i s) (sym (sum_until m i (λ j. B i j *ℤ R j s) l (λ j c o. ap (λ x. x *ℤ R j s) (later j c o) ∙ zero-*ℤ (R j s))) ∙ z)
+          minus (sum_below i (λ j. B i j *ℤ R j s)) (B i i *ℤ R i s) (sym (sum_until m i (λ j. B i j *ℤ R j s) l (λ j c o. ap (λ x. x *ℤ R j s) (later j c o) ∙ zero-*ℤ (R j s))) ∙ z)
           ∙ sym (sum_ext i (λ j c. ring (B i j ∷ R j s ∷ []) (k (negsuc 0) ⊗ v 0 ⊗ v 1) (k (negsuc 0) ⊗ (v 0 ⊗ v 1)) tt) ∙ sum_scale i (negsuc 0) (λ j. B i j *ℤ R j s))
 
   -- ---- a combination makes the row spare
@@ -79,7 +79,7 @@ module _ (n m : ℕ) (w : ℕ → ℤ) (R : ℕ → ℕ → ℤ) (t : Grid) (I :
       ∙ ap (λ z. y j *ℤ z) (sym (times_gram_is n m w R (B i) j) ∙ sym (I.halves i l j (omega arith)) ∙ before i l j b)
       ∙ *ℤ-zero (y j))))
     where
-      spread : (s : ℕ) → s < n → Dec (w s ≡ pos 0) → e *ℤ (w s *ℤ (comb m R (B i) s *ℤ R i s)) ≡ sum i (λ j. y j *ℤ (w s *ℤ (comb m R (B i) s *ℤ R j s)))
+      spread : (s : ℕ) → s < n → Dec (w s ≡ pos 0) → e *ℤ (w s *ℤ (comb m R (B i) s *ℤ R i s)) ≡ sum_below i (λ j. y j *ℤ (w s *ℤ (comb m R (B i) s *ℤ R j s)))
       spread s b (yes q) =
           ap (λ z. e *ℤ (z *ℤ (comb m R (B i) s *ℤ R i s))) q ∙ ring (e ∷ (comb m R (B i) s *ℤ R i s) ∷ []) (v 0 ⊗ (k (pos 0) ⊗ v 1)) (k (pos 0)) tt
           ∙ sym (sum_zero i (λ j c. ap (λ z. y j *ℤ (z *ℤ (comb m R (B i) s *ℤ R j s))) q ∙ ring (y j ∷ (comb m R (B i) s *ℤ R j s) ∷ []) (v 0 ⊗ (k (pos 0) ⊗ v 1)) (k (pos 0)) tt))

@@ -1,7 +1,7 @@
 -- Rational placings. Parameter s has the coordinates y s 0 to y s (size - 1) over one denominator e.
 use Rattle.std.specs.Prelude.{◌≡◌, ℕ, ◌+◌, ◌<◌, ◌≢◌, ◌⊎◌, List, ℤ, pos, ◌+ℤ◌, ◌-ℤ◌, ◌*ℤ◌, ◌≤ℤ◌, ◌<ℤ◌}
 use Rattle.whole.specs.Lists.{tab}
-use Rattle.whole.specs.Sums.{sum}
+use Rattle.whole.specs.Sums.{sum_below}
 use Rattle.linear.specs.Gram.{dot, comb}
 use Rattle.linear.specs.Elimination.{Grid, entry}
 
@@ -19,7 +19,7 @@ Same size n e y f z = (s : ℕ) → s < n → (c : ℕ) → c < size → f *ℤ 
 
 -- The sum over s of w s × the squared distance between base over d and y over e, times (d e)².
 abbrev pub cost : (size : ℕ) (inner : List ℤ → List ℤ → ℤ) (n : ℕ) (w : ℕ → ℤ) (d : ℤ) (base : ℕ → ℕ → ℤ) (e : ℤ) (y : ℕ → ℕ → ℤ) → ℤ
-cost size inner n w d base e y = sum n (λ s. let gap = tab size (λ c. d *ℤ y s c -ℤ e *ℤ base s c) in w s *ℤ inner gap gap)
+cost size inner n w d base e y = sum_below n (λ s. let gap = tab size (λ c. d *ℤ y s c -ℤ e *ℤ base s c) in w s *ℤ inner gap gap)
 
 -- y over e meets every relation, agrees with base over d where nothing is loose, and every other placing that does so costs strictly more.
 pub record NearestPlacing (size : ℕ) (inner : List ℤ → List ℤ → ℤ) (n m : ℕ) (w v : ℕ → ℤ) (R Q : ℕ → ℕ → ℤ) (d : ℤ) (base : ℕ → ℕ → ℤ) (e : ℤ) (y : ℕ → ℕ → ℤ) : Type 0 where
@@ -38,7 +38,7 @@ residual n R Q d base i c = d *ℤ Q i c -ℤ dot n (R i) (λ s. base s c)
 
 -- What row i of the table carries: its right half times the residuals r.
 abbrev pub carried : (m : ℕ) (t : Grid) (r : ℕ → ℕ → ℤ) → ℕ → ℕ → ℤ
-carried m t r i c = sum m (λ j. entry t i (m + j) *ℤ r j c)
+carried m t r i c = sum_below m (λ j. entry t i (m + j) *ℤ r j c)
 
 -- The multipliers x over f for what the rows carry: p × x = f × g in a needed row with the diagonal number p. A spare row carries 0 and has the multiplier 0.
 pub record Multipliers (size m : ℕ) (t : Grid) (g : ℕ → ℕ → ℤ) (f : ℤ) (x : ℕ → ℕ → ℤ) : Type 0 where

@@ -1,6 +1,6 @@
 -- The theorems of the elimination, and of what it is for.
 use Rattle.std.specs.Prelude.{◌≡◌, ℕ, ◌+◌, ◌*◌, ◌^◌, ◌<◌, ◌≤◌, false, ◌≢◌, ◌↔◌, List, ℤ, pos, ◌-ℤ◌, ◌*ℤ◌, ◌≤ℤ◌, ◌<ℤ◌, Ok, unsigned_abs}
-use Rattle.whole.specs.Sums.{sum}
+use Rattle.whole.specs.Sums.{sum_below}
 use Rattle.linear.specs.Products.{InnerProduct}
 use Rattle.linear.specs.Elimination.{Grid, entry, start, steps, table_limit, beyond, eliminated}
 use Rattle.linear.specs.Meaning.{Meaning}
@@ -30,7 +30,7 @@ PivotsLast = (n m : ℕ) (v : ℕ → ℤ) (R : ℕ → ℕ → ℤ) → Shares 
 
 -- The loose coefficients of relation i are a rational combination, y over e, of those of earlier relations.
 abbrev pub Combined : ℕ → (ℕ → ℤ) → (ℕ → ℕ → ℤ) → ℕ → Type 0
-Combined n v R i = (e : ℤ) × (y : ℕ → ℤ) × (e ≢ pos 0) × ((s : ℕ) → s < n → v s ≢ pos 0 → e *ℤ R i s ≡ sum i (λ j. y j *ℤ R j s))
+Combined n v R i = (e : ℤ) × (y : ℕ → ℤ) × (e ≢ pos 0) × ((s : ℕ) → s < n → v s ≢ pos 0 → e *ℤ R i s ≡ sum_below i (λ j. y j *ℤ R j s))
 
 -- A row is spare at the end exactly when its relation is such a combination.
 abbrev pub Spares : Type 0

@@ -11,7 +11,7 @@ use Rattle.records.specs.declared.refusal.Refusal.TheVariants.{TooFine}
 use Rattle.records.specs.declared.relation.Relation.{Relation}
 use Rattle.records.specs.declared.role.Role.{Role}
 use Rattle.whole.specs.Lists.{tab, at, coord}
-use Rattle.whole.specs.Sums.{sum}
+use Rattle.whole.specs.Sums.{sum_below}
 use Rattle.whole.specs.Tests.{any, above, nonzero}
 use Rattle.whole.specs.Gcd.{lcm, gcd_all}
 use Rattle.whole.proofs.Divisors.{gcd_all-divides}
@@ -158,7 +158,7 @@ module _ (size n : ℕ) (roles : List Role) (vs : List ℤ) (d : ℤ) (values wi
       ap (numerators_by size n roles vs l d values wishes rs rows) (multiplied_all size m t gs l fair)
       ∙ tab_ext n _ _ (λ s b. tab_ext size _ _ (λ c k. ap (numerator (role roles s) (pos l) d (coord values s c) (coord wishes s c) (at vs s))
       (sum_ext (length rows) (λ i h. *ℤ_comm (at (relation_at rs (get_or rows i 0)).coefficients s) (coord (multipliers size m t l ps us) i c) ∙ ap (λ (x : ℤ). coord (multipliers size m t l ps us) i c *ℤ x) (sym (picked_coef n rs qs rows i s h b)))
-      ∙ ap (λ (q : ℕ). sum q (λ i. coord (multipliers size m t l ps us) i c *ℤ coef (chosen n rs qs rows) i s)) (sym (many-chosen n rs qs rows)))))
+      ∙ ap (λ (q : ℕ). sum_below q (λ i. coord (multipliers size m t l ps us) i c *ℤ coef (chosen n rs qs rows) i s)) (sym (many-chosen n rs qs rows)))))
 
   outcome : ℕ → Result Placing Refusal
   outcome l = guard (ltb 2147483647 l || any (length ps) (λ i. strays size l (get_or ps i 0) (get_or us i []))) TooFine (settled size n (lowest size n (pos l *ℤ d) (numerators_by size n roles vs l d values wishes rs rows (all_multiplied size l ps us))))

@@ -1,7 +1,7 @@
 -- The steps of a pull after its rows, by coordinates.
 use Rattle.std.specs.Prelude.{ℕ, List, length, ℤ, ◌+ℤ◌, ◌*ℤ◌, Ok, Err, Result, slice_index}
 use Rattle.whole.specs.Lists.{at, coord}
-use Rattle.whole.specs.Sums.{sum}
+use Rattle.whole.specs.Sums.{sum_below}
 use Rattle.records.specs.declared.refusal.Refusal.{Refusal}
 use Rattle.records.specs.declared.relation.Relation.{Relation}
 use Rattle.records.specs.declared.role.Role.{Role}
@@ -18,7 +18,7 @@ placed (Err e) us = Err e
 
 -- A parameter's shift at coordinate c: the sum of its coefficient × multiplier over the relations with these numbers.
 abbrev pub shift_at : List Relation → List ℕ → List Coords → ℕ → ℕ → ℤ
-shift_at rs rows xs s c = sum (length rows) (λ i. at (relation_at rs (slice_index rows i)).coefficients s *ℤ coord xs i c)
+shift_at rs rows xs s c = sum_below (length rows) (λ i. at (relation_at rs (slice_index rows i)).coefficients s *ℤ coord xs i c)
 
 -- A numerator over e = ℓ × d, from ℓ, e, the kept numerator, the wish, v(s) and the shift.
 abbrev pub numerator_over : Role → ℤ → ℤ → ℤ → ℤ → ℤ → ℤ → ℤ

@@ -4,7 +4,7 @@ use Rattle.std.proofs.lemmas.List.{length-map, get_or-map}
 use Rattle.records.specs.declared.relation.Relation.{Relation}
 use Rattle.records.specs.declared.role.Role.{Role}
 use Rattle.whole.specs.Lists.{tab, at, coord}
-use Rattle.whole.specs.Sums.{sum}
+use Rattle.whole.specs.Sums.{sum_below}
 use Rattle.whole.proofs.Lists.{tab-length, tab_ext, get_or-tab}
 use Rattle.whole.proofs.Sums.{sum_ext}
 use Rattle.rules.specs.Values.{Coords}
@@ -32,7 +32,7 @@ module _ (n : ℕ) (rs : List Relation) (qs : List Coords) (rows : List ℕ) whe
         → get_or (residuals size n roles (chosen n rs qs rows) d values wishes) i [] ≡ tab size (residual_at n roles d values wishes (relation_at rs (get_or rows i 0)).coefficients (get_or qs (get_or rows i 0) []))
     residual_row i l =
         get_or-tab (length (chosen n rs qs rows)) _ [] i (subst (λ (m : ℕ). i < m) (sym many-chosen) l)
-        ∙ tab_ext size _ _ (λ c h. ap (λ (x : ℤ). d *ℤ x -ℤ d *ℤ sum n (λ s. if_moving (role roles s) (coef (chosen n rs qs rows) i s *ℤ coord wishes s c)) -ℤ sum n (λ s. if_held (role roles s) (coef (chosen n rs qs rows) i s *ℤ coord values s c)))
+        ∙ tab_ext size _ _ (λ c h. ap (λ (x : ℤ). d *ℤ x -ℤ d *ℤ sum_below n (λ s. if_moving (role roles s) (coef (chosen n rs qs rows) i s *ℤ coord wishes s c)) -ℤ sum_below n (λ s. if_held (role roles s) (coef (chosen n rs qs rows) i s *ℤ coord values s c)))
         (ap (λ (b : Bond). at b.constant c) (picked i l))
         ∙ ap₂ (λ (x y : ℤ). d *ℤ at (get_or qs (get_or rows i 0) []) c -ℤ d *ℤ x -ℤ y)
         (sum_ext n (λ s b. ap (λ (z : ℤ). if_moving (role roles s) (z *ℤ coord wishes s c)) (picked_coef i s l b)))

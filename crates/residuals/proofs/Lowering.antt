@@ -7,7 +7,7 @@ use Rattle.records.specs.Outcomes.{guard}
 use Rattle.records.specs.declared.refusal.Refusal.{Refusal}
 use Rattle.records.specs.declared.refusal.Refusal.TheVariants.{Impossible}
 use Rattle.whole.specs.Lists.{tab, at, coord}
-use Rattle.whole.specs.Sums.{sum}
+use Rattle.whole.specs.Sums.{sum_below}
 use Rattle.whole.specs.Tests.{any, above, nonzero}
 use Rattle.whole.proofs.Lists.{tab-length, tab_ext, get_or-tab, at-tab}
 use Rattle.whole.proofs.Sums.{sum_ext}
@@ -68,7 +68,7 @@ module _ (size m : ℕ) (t : Grid) (cs : List Coords) where
 
   pub carried_found : (i : ℕ) → i < m → (row : List ℤ) (us : Coords) → row ≡ cond (ltb i m) (tab m (right_half m t i)) [] → us ≡ tab size (carried_at (length row) row cs) → us ≡ get_or (carried size m t cs) i []
   carried_found i l row us e is = is ∙ tab_ext size _ _ (λ c h. ap (λ (n : ℕ). carried_at n row cs c) long ∙ sum_ext m (λ j b. ap (λ (x : ℤ). x *ℤ coord cs j c) (place j b)))
-      ∙ sym (get_or-tab m (λ i. tab size (λ c. sum m (λ j. entry t i (m + j) *ℤ coord cs j c))) [] i l)
+      ∙ sym (get_or-tab m (λ i. tab size (λ c. sum_below m (λ j. entry t i (m + j) *ℤ coord cs j c))) [] i l)
     where
       whole : row ≡ tab m (right_half m t i)
       whole = e ∙ ap (λ (b : Bool). cond b (tab m (right_half m t i)) []) (lt-ltb i m l)

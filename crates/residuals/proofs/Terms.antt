@@ -3,7 +3,7 @@ use Rattle.std.proofs.Common.{◌≡◌, ℕ, zero, suc, ◌+◌, ◌<◌, ◌�
 use lib.IntN.{+ℤ_idl}
 use borrow.Author.Differences.{ints}
 use Rattle.whole.specs.Lists.{at, coord}
-use Rattle.whole.specs.Sums.{sum}
+use Rattle.whole.specs.Sums.{sum_below}
 use Rattle.whole.proofs.Ring.{v, k, ◌⊕◌, ◌⊖◌, ◌⊗◌, ⊝, ring}
 use Rattle.whole.proofs.Sizes.{product-≤}
 use Rattle.whole.proofs.Tests.{any_false, above_false}
@@ -24,7 +24,7 @@ use Rattle.fractions.proofs.Zeros.{zero_at, zero_length}
 
 -- before the first term
 no_terms : (roles : List Role) (d : ℤ) (values wishes : List Coords) (cs : List ℤ) (c : ℕ) (x : ℤ) → x ≡ less_terms 0 roles d values wishes cs c x
-unfolding sum
+unfolding sum_below
 no_terms roles d values wishes cs c x = ring (x ∷ d ∷ []) (v 0) (v 0 ⊖ v 1 ⊗ k (pos 0) ⊖ k (pos 0)) tt
 
 -- one term more
@@ -71,7 +71,7 @@ module _ (size n : ℕ) (roles : List Role) (d : ℤ) (values wishes : List Coor
       step c l =
           let M : ℕ → ℤ = λ s. if_moving (role roles s) (at cs s *ℤ coord wishes s c) in
           let H : ℕ → ℤ = λ s. if_held (role roles s) (at cs s *ℤ coord values s c) in
-          one (role roles s) d (d *ℤ at q c) (sum s M) (sum s H) (at cs s) (get_or wishes s []) (get_or values s []) c
+          one (role roles s) d (d *ℤ at q c) (sum_below s M) (sum_below s H) (at cs s) (get_or wishes s []) (get_or values s []) c
           ∙ ap₂ (λ (a e : ℤ). d *ℤ at q c -ℤ d *ℤ a -ℤ e) (sym (sum_more s M)) (sym (sum_more s H))
 
       term : (c : ℕ) → c < size → residual_at s roles d values wishes cs q c +ℤ factor (role roles s) d (at cs s) *ℤ at (taken (role roles s) (get_or wishes s []) (get_or values s [])) c ≡ residual_at (s + 1) roles d values wishes cs q c

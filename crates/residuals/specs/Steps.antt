@@ -1,7 +1,7 @@
 -- The steps of a residual and of a row at one value, by coordinates.
 use Rattle.std.specs.Prelude.{ℕ, ◌/◌, ◌&&◌, List, ℤ, pos, ◌-ℤ◌, ◌*ℤ◌, neg_ℤ, Ok, Result, ◌==◌}
 use Rattle.whole.specs.Lists.{at, coord}
-use Rattle.whole.specs.Sums.{sum}
+use Rattle.whole.specs.Sums.{sum_below}
 use Rattle.whole.specs.Tests.{any, nonzero}
 use Rattle.records.specs.Outcomes.{guard}
 use Rattle.records.specs.declared.refusal.Refusal.{Refusal}
@@ -32,7 +32,7 @@ taken (Loose w) wish value = wish
 -- A number less the terms of the first n parameters at coordinate c.
 abbrev pub less_terms : ℕ → List Role → ℤ → List Coords → List Coords → List ℤ → ℕ → ℤ → ℤ
 less_terms n roles d values wishes cs c x =
-    x -ℤ d *ℤ sum n (λ s. if_moving (role roles s) (at cs s *ℤ coord wishes s c)) -ℤ sum n (λ s. if_held (role roles s) (at cs s *ℤ coord values s c))
+    x -ℤ d *ℤ sum_below n (λ s. if_moving (role roles s) (at cs s *ℤ coord wishes s c)) -ℤ sum_below n (λ s. if_held (role roles s) (at cs s *ℤ coord values s c))
 
 -- One relation's residual at coordinate c.
 abbrev pub residual_at : ℕ → List Role → ℤ → List Coords → List Coords → List ℤ → Coords → ℕ → ℤ
@@ -40,4 +40,4 @@ residual_at n roles d values wishes cs q c = less_terms n roles d values wishes 
 
 -- The sum of row[j] × residual j at coordinate c.
 abbrev pub carried_at : ℕ → List ℤ → List Coords → ℕ → ℤ
-carried_at m row cs c = sum m (λ j. at row j *ℤ coord cs j c)
+carried_at m row cs c = sum_below m (λ j. at row j *ℤ coord cs j c)

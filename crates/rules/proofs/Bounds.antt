@@ -3,7 +3,7 @@ use Rattle.std.proofs.Common.{◌≡◌, ℕ, zero, suc, ◌+◌, ◌*◌, ◌/�
 use lib.IntN.{zero-*ℤ}
 use Rattle.std.proofs.lemmas.Bool.{and_cases}
 use Rattle.whole.specs.Lists.{at, coord}
-use Rattle.whole.specs.Sums.{sum}
+use Rattle.whole.specs.Sums.{sum_below}
 use Rattle.whole.specs.Tests.{any, tally, above}
 use Rattle.whole.specs.Gcd.{gcd}
 use Rattle.whole.proofs.Sizes.{nat_abs-+, nat_abs--, product-≤, sum-≤}
@@ -19,14 +19,14 @@ use Rattle.rules.proofs.Roles.{share-≤, no_share, good-weights, few_loose}
 use Rattle.rules.proofs.Fit.{fit_values}
 
 -- ---- sums with terms at some indices alone
-pub sum-tally : (n : ℕ) (p : ℕ → Bool) (f : ℕ → ℤ) (M : ℕ) → ((s : ℕ) → s < n → p s ≡ false → f s ≡ pos 0) → ((s : ℕ) → s < n → nat_abs (f s) ≤ M) → nat_abs (sum n f) ≤ tally n p * M
-unfolding sum
+pub sum-tally : (n : ℕ) (p : ℕ → Bool) (f : ℕ → ℤ) (M : ℕ) → ((s : ℕ) → s < n → p s ≡ false → f s ≡ pos 0) → ((s : ℕ) → s < n → nat_abs (f s) ≤ M) → nat_abs (sum_below n f) ≤ tally n p * M
+unfolding sum_below
 sum-tally zero p f M z h = omega arith
 sum-tally (suc n) p f M z h = by (p n) refl (sum-tally n p f M (λ s l. z s (omega arith)) (λ s l. h s (omega arith)))
   where
-    by : (b : Bool) → p n ≡ b → nat_abs (sum n f) ≤ tally n p * M → nat_abs (sum n f +ℤ f n) ≤ (elim b as (λ x. ℕ) [ true ↦ suc (tally n p) | false ↦ tally n p ]) * M
-    by true e ih = let b = h n (omega arith) in omega (arith, nat_abs-+ (sum n f) (f n))
-    by false e ih = let b : nat_abs (f n) ≡ 0 = ap nat_abs (z n (omega arith) e) in omega (arith, nat_abs-+ (sum n f) (f n))
+    by : (b : Bool) → p n ≡ b → nat_abs (sum_below n f) ≤ tally n p * M → nat_abs (sum_below n f +ℤ f n) ≤ (elim b as (λ x. ℕ) [ true ↦ suc (tally n p) | false ↦ tally n p ]) * M
+    by true e ih = let b = h n (omega arith) in omega (arith, nat_abs-+ (sum_below n f) (f n))
+    by false e ih = let b : nat_abs (f n) ≡ 0 = ap nat_abs (z n (omega arith) e) in omega (arith, nat_abs-+ (sum_below n f) (f n))
 
 pub tally_up : (k n : ℕ) (p : ℕ → Bool) → k ≤ n → tally k p ≤ tally n p
 tally_up k zero p l = subst (λ (x : ℕ). tally x p ≤ 0) (sym none) (omega arith)
@@ -80,7 +80,7 @@ holding-within size n d values cs q few fit coefs constant c k b l =
     let s = sum-≤ k (λ s. at cs s *ℤ coord values s c) 2140200000000
     (λ s u. term-≤ (at cs s) (coord values s c) d (above_false 1000 (at cs s) (any_false n _ coefs s (omega arith))) (F.small s (omega arith) c b) F.high) in
     let q' = product-≤ d (at q c) 45000 47560000 F.high (above_false 47560000 (at q c) (any_false size _ constant c b)) in
-    omega (arith, nat_abs-- (sum k (λ s. at cs s *ℤ coord values s c)) (d *ℤ at q c))
+    omega (arith, nat_abs-- (sum_below k (λ s. at cs s *ℤ coord values s c)) (d *ℤ at q c))
 
 held-0 : (r : Role) (x : ℤ) → is_held r ≡ false → if_held r x ≡ pos 0
 held-0 Held x e = absurd (true≢false e)
@@ -122,7 +122,7 @@ residual-within size n roles bs d values wishes few fit far coefs constants i c 
     (λ s l e. moving-0 (role roles s) (coef bs i s *ℤ coord wishes s c) e)
     (λ s l. moving-≤ (role roles s) (coef bs i s *ℤ coord wishes s c) 47560000
     (λ e. product-≤ (coef bs i s) (coord wishes s c) 1000 47560 (coefs i s (omega arith)) (wish-≤ size n roles wishes far s (omega arith) e c b))) in
-    let dm = product-≤ d (sum j moving) 45000 (tally j (λ s. not (is_held (role roles s))) * 47560000) F.high m in
+    let dm = product-≤ d (sum_below j moving) 45000 (tally j (λ s. not (is_held (role roles s))) * 47560000) F.high m in
     let h = sum-tally k (λ s. is_held (role roles s)) helds 2140200000000
     (λ s l e. held-0 (role roles s) (coef bs i s *ℤ coord values s c) e)
     (λ s l. held-≤ (role roles s) (coef bs i s *ℤ coord values s c) 2140200000000
@@ -131,7 +131,7 @@ residual-within size n roles bs d values wishes few fit far coefs constants i c 
     let both = tally_both n (λ s. is_held (role roles s)) in
     let um = tally_up j n (λ s. not (is_held (role roles s))) lj in
     let uh = tally_up k n (λ s. is_held (role roles s)) lk in
-    omega (arith, nat_abs-- (d *ℤ const bs i c -ℤ d *ℤ sum j moving) (sum k helds), nat_abs-- (d *ℤ const bs i c) (d *ℤ sum j moving))
+    omega (arith, nat_abs-- (d *ℤ const bs i c -ℤ d *ℤ sum_below j moving) (sum_below k helds), nat_abs-- (d *ℤ const bs i c) (d *ℤ sum_below j moving))
 
 -- ---- pulling
 pub carried-within : CarriedWithin
@@ -153,19 +153,19 @@ denominator_within l d hl hd = let h = product-≤ (pos l) d 2147483647 45000 hl
 pub numerator-within : NumeratorWithin
 numerator-within r l d n wish v m R x hl hd hn hw hv few hR hx k u = (omega (arith, total), by r hw)
   where
-    total : nat_abs (sum k (λ i. x i *ℤ R i)) ≤ k * 1000000000000000
+    total : nat_abs (sum_below k (λ i. x i *ℤ R i)) ≤ k * 1000000000000000
     total = sum-≤ k (λ i. x i *ℤ R i) 1000000000000000 (λ i b. product-≤ (x i) (R i) 1000000000000 1000 (hx i (omega arith)) (hR i (omega arith)))
 
-    moved : nat_abs (v *ℤ sum k (λ i. x i *ℤ R i)) ≤ 144000000000000000
-    moved = product-≤ v (sum k (λ i. x i *ℤ R i)) 12 12000000000000000 hv (omega (arith, total))
+    moved : nat_abs (v *ℤ sum_below k (λ i. x i *ℤ R i)) ≤ 144000000000000000
+    moved = product-≤ v (sum_below k (λ i. x i *ℤ R i)) 12 12000000000000000 hv (omega (arith, total))
 
     wished : nat_abs wish ≤ 47560 → nat_abs (pos l *ℤ (d *ℤ wish)) ≤ 4596044501309400000
     wished h = product-≤ (pos l) (d *ℤ wish) 2147483647 2140200000 hl (product-≤ d wish 45000 47560 hd h)
 
-    by : (r : Role) → (is_held r ≡ false → nat_abs wish ≤ 47560) → nat_abs (numerator r (pos l) d n wish v (sum k (λ i. x i *ℤ R i))) ≤ 5000000000000000000
+    by : (r : Role) → (is_held r ≡ false → nat_abs wish ≤ 47560) → nat_abs (numerator r (pos l) d n wish v (sum_below k (λ i. x i *ℤ R i))) ≤ 5000000000000000000
     by Held h = let a : nat_abs n ≤ 2140200000 = omega arith in let b = product-≤ (pos l) n 2147483647 2140200000 hl a in omega arith
     by Pulled h = let a = wished (h refl) in omega arith
-    by (Loose w) h = let a = wished (h refl) in omega (arith, moved, nat_abs-+ (pos l *ℤ (d *ℤ wish)) (v *ℤ sum k (λ i. x i *ℤ R i)))
+    by (Loose w) h = let a = wished (h refl) in omega (arith, moved, nat_abs-+ (pos l *ℤ (d *ℤ wish)) (v *ℤ sum_below k (λ i. x i *ℤ R i)))
 
 pub room_for_all : RoomForAll
 room_for_all = (omega arith, omega arith, omega arith, omega arith, omega arith)

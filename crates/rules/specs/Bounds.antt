@@ -1,7 +1,7 @@
 -- Bounds on the numbers that the calls work out, partial sums included: each fits 64 signed bits.
 use Rattle.std.specs.Prelude.{◌≡◌, ℕ, ◌+◌, ◌*◌, ◌/◌, ◌^◌, ◌<◌, ◌≤◌, false, List, ℤ, pos, ◌-ℤ◌, ◌*ℤ◌, unsigned_abs}
 use Rattle.whole.specs.Lists.{at, coord}
-use Rattle.whole.specs.Sums.{sum}
+use Rattle.whole.specs.Sums.{sum_below}
 use Rattle.whole.specs.Gcd.{lcm}
 use Rattle.linear.specs.Gram.{gram}
 use Rattle.linear.specs.Elimination.{Grid, entry, table_limit, beyond}
@@ -37,18 +37,18 @@ GramWithin = (n : ℕ) (roles : List Role) (bs : List Bond) → bad_roles n role
 -- The test whether a relation holds now.
 abbrev pub HoldingWithin : Type 0
 HoldingWithin = (size n : ℕ) (d : ℤ) (values : List Coords) (cs : List ℤ) (q : Coords) → n ≤ most_parameters → unfit_values size n d values ≡ false → bad_coefs n cs ≡ false → bad_constant size q ≡ false
-    → (c k : ℕ) → c < size → k ≤ n → unsigned_abs (sum k (λ s. at cs s *ℤ coord values s c) -ℤ d *ℤ at q c) ≤ 110000000000000
+    → (c k : ℕ) → c < size → k ≤ n → unsigned_abs (sum_below k (λ s. at cs s *ℤ coord values s c) -ℤ d *ℤ at q c) ≤ 110000000000000
 
 -- c(i), with the first j of the pulled and loose terms and the first k of the held ones.
 abbrev pub ResidualWithin : Type 0
 ResidualWithin = (size n : ℕ) (roles : List Role) (bs : List Bond) (d : ℤ) (values wishes : List Coords) → n ≤ most_parameters → unfit_values size n d values ≡ false
     → far_wish size n roles wishes ≡ false → CoefsWithin n bs → ConstantsWithin size bs → (i c j k : ℕ) → c < size → j ≤ n → k ≤ n
-    → unsigned_abs (d *ℤ const bs i c -ℤ d *ℤ sum j (λ s. if_moving (role roles s) (coef bs i s *ℤ coord wishes s c)) -ℤ sum k (λ s. if_held (role roles s) (coef bs i s *ℤ coord values s c))) ≤ 110000000000000
+    → unsigned_abs (d *ℤ const bs i c -ℤ d *ℤ sum_below j (λ s. if_moving (role roles s) (coef bs i s *ℤ coord wishes s c)) -ℤ sum_below k (λ s. if_held (role roles s) (coef bs i s *ℤ coord values s c))) ≤ 110000000000000
 
 -- g(i)
 abbrev pub CarriedWithin : Type 0
 CarriedWithin = (size m : ℕ) (t : Grid) (cs : List Coords) → m ≤ most_counted → beyond m t ≡ false → some_above most_residual size m cs ≡ false
-    → (i c k : ℕ) → i < m → c < size → k ≤ m → unsigned_abs (sum k (λ j. entry t i (m + j) *ℤ coord cs j c)) ≤ 7800000000000000000
+    → (i c k : ℕ) → i < m → c < size → k ≤ m → unsigned_abs (sum_below k (λ j. entry t i (m + j) *ℤ coord cs j c)) ≤ 7800000000000000000
 
 -- A number p'(i) taken up into ℓ, and μ(i).
 abbrev pub MultipleWithin : Type 0
@@ -65,7 +65,7 @@ abbrev pub NumeratorWithin : Type 0
 NumeratorWithin = (r : Role) (l : ℕ) (d n wish v : ℤ) (m : ℕ) (R x : ℕ → ℤ) → l ≤ table_limit → unsigned_abs d ≤ most_denominator → unsigned_abs n ≤ most_steps * unsigned_abs d
     → (is_held r ≡ false → unsigned_abs wish ≤ most_steps) → unsigned_abs v ≤ 12 → m ≤ most_counted
     → ((i : ℕ) → i < m → unsigned_abs (R i) ≤ most_coefficient) → ((i : ℕ) → i < m → unsigned_abs (x i) ≤ most_multiplier) → (k : ℕ) → k ≤ m
-    → (unsigned_abs (sum k (λ i. x i *ℤ R i)) ≤ 12000000000000000) × (unsigned_abs (numerator r (pos l) d n wish v (sum k (λ i. x i *ℤ R i))) ≤ 5000000000000000000)
+    → (unsigned_abs (sum_below k (λ i. x i *ℤ R i)) ≤ 12000000000000000) × (unsigned_abs (numerator r (pos l) d n wish v (sum_below k (λ i. x i *ℤ R i))) ≤ 5000000000000000000)
 
 -- All of these bounds are below 2^63.
 abbrev pub RoomForAll : Type 0

@@ -3,7 +3,7 @@ use Rattle.std.specs.Prelude.{◌≡◌, ℕ, ◌+◌, ◌-◌, min, Bool, cond,
 use Rattle.std.proofs.Math.Seq.{paste}
 use Rattle.std.specs.List.Sorted.{IsPermutation}
 use Rattle.whole.specs.Lists.{at, coord}
-use Rattle.whole.specs.Sums.{sum}
+use Rattle.whole.specs.Sums.{sum_below}
 use Rattle.whole.specs.Tests.{any, nonzero, differ}
 use Rattle.records.specs.Outcomes.{guard, onward}
 use Rattle.records.specs.declared.refusal.Refusal.{Refusal}
@@ -30,7 +30,7 @@ opening size n vs =
 
 -- The relation does not hold for the values over d.
 abbrev pub untrue : ℕ → ℕ → ℤ → List Coords → Bond → Bool
-untrue size n d vs b = any size (λ c. differ (sum n (λ s. at b.coefs s *ℤ coord vs s c)) (d *ℤ at b.constant c))
+untrue size n d vs b = any size (λ c. differ (sum_below n (λ s. at b.coefs s *ℤ coord vs s c)) (d *ℤ at b.constant c))
 
 abbrev pub bind_answer : ℕ → Sheet → List Coords → List Relation → List Coords → List ℤ → Coords → Result (Unit {0}) Refusal
 bind_answer size s vs rs qs cs q =

@@ -1,7 +1,7 @@
 -- Three quiet mistakes: what the rules say where each of them would say something else.
 use Rattle.std.specs.Prelude.{◌≡◌, ℕ, true, false, List, [], ◌∷◌, ℤ, pos, ◌-ℤ◌, ◌*ℤ◌, Ok, Result}
 use Rattle.whole.specs.Lists.{coord}
-use Rattle.whole.specs.Sums.{sum}
+use Rattle.whole.specs.Sums.{sum_below}
 use Rattle.linear.specs.Elimination.{Grid}
 use Rattle.records.specs.declared.refusal.Refusal.{Refusal}
 use Rattle.records.specs.declared.role.Role.{Role}
@@ -32,7 +32,7 @@ Rounded = (untrue 1 3 (pos 5) (lengths (pos 5 ∷ pos 2 ∷ neg 1 ∷ [])) middl
 -- The residual with the denominator left off the wishes.
 abbrev pub undivided : ℕ → ℕ → List Role → List Bond → ℤ → List Coords → List Coords → List Coords
 undivided size n roles bs d values wishes = grid 1 size (λ i c.
-    d *ℤ const bs i c -ℤ sum n (λ s. if_moving (role roles s) (coef bs i s *ℤ coord wishes s c)) -ℤ sum n (λ s. if_held (role roles s) (coef bs i s *ℤ coord values s c)))
+    d *ℤ const bs i c -ℤ sum_below n (λ s. if_moving (role roles s) (coef bs i s *ℤ coord wishes s c)) -ℤ sum_below n (λ s. if_held (role roles s) (coef bs i s *ℤ coord values s c)))
 
 abbrev pub roles : List Role
 roles = Pulled ∷ weight 1 ∷ weight 1 ∷ []

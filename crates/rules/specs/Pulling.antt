@@ -1,7 +1,7 @@
 -- What a pull works out, rule by rule. A list by relation has one place for each of the m relations bs that count; c is a coordinate.
 use Rattle.std.specs.Prelude.{ℕ, zero, suc, ◌+◌, ◌/◌, Bool, cond, not, ◌&&◌, ◌||◌, List, [], ◌∷◌, ◌++◌, length, get_or, ℤ, pos, ◌+ℤ◌, ◌-ℤ◌, ◌*ℤ◌, Ok, Result, int_div, int_lt, nat_lt, slice_index_or, unsigned_abs}
 use Rattle.whole.specs.Lists.{tab, at, coord}
-use Rattle.whole.specs.Sums.{sum}
+use Rattle.whole.specs.Sums.{sum_below}
 use Rattle.whole.specs.Tests.{any, above, nonzero}
 use Rattle.whole.specs.Gcd.{gcd_all, lcm}
 use Rattle.linear.specs.Elimination.{Grid, entry, table_limit}
@@ -33,11 +33,11 @@ far_wish size n roles wishes = any n (λ s. not (is_held (role roles s)) && any 
 -- c(i) = d × Q(i) − d × (sum over pulled and loose s of R(i, s) × wish) − (sum over held s of R(i, s) × n).
 abbrev pub residuals : ℕ → ℕ → List Role → List Bond → ℤ → List Coords → List Coords → List Coords
 residuals size n roles bs d values wishes = grid (length bs) size (λ i c.
-    d *ℤ const bs i c -ℤ d *ℤ sum n (λ s. if_moving (role roles s) (coef bs i s *ℤ coord wishes s c)) -ℤ sum n (λ s. if_held (role roles s) (coef bs i s *ℤ coord values s c)))
+    d *ℤ const bs i c -ℤ d *ℤ sum_below n (λ s. if_moving (role roles s) (coef bs i s *ℤ coord wishes s c)) -ℤ sum_below n (λ s. if_held (role roles s) (coef bs i s *ℤ coord values s c)))
 
 -- g(i) is the sum over j of the number in row i, place m + j, times c(j).
 abbrev pub carried : ℕ → ℕ → Grid → List Coords → List Coords
-carried size m t cs = grid m size (λ i c. sum m (λ j. entry t i (m + j) *ℤ coord cs j c))
+carried size m t cs = grid m size (λ i c. sum_below m (λ j. entry t i (m + j) *ℤ coord cs j c))
 
 -- A spare row carries something other than zero.
 abbrev pub contradicts : ℕ → ℕ → Grid → List Coords → Bool
@@ -71,7 +71,7 @@ numerator (Loose w) l d n wish v x = l *ℤ (d *ℤ wish) +ℤ v *ℤ x
 
 abbrev pub numerators : ℕ → ℕ → List Role → List ℤ → List Bond → ℕ → ℤ → List Coords → List Coords → List Coords → List Coords
 numerators size n roles vs bs l d values wishes xs = grid n size (λ s c.
-    numerator (role roles s) (pos l) d (coord values s c) (coord wishes s c) (at vs s) (sum (length bs) (λ i. coord xs i c *ℤ coef bs i s)))
+    numerator (role roles s) (pos l) d (coord values s c) (coord wishes s c) (at vs s) (sum_below (length bs) (λ i. coord xs i c *ℤ coef bs i s)))
 
 abbrev pub joined : List Coords → List ℤ
 joined [] = []

@@ -3,7 +3,7 @@ use Rattle.std.proofs.Common.{◌≡◌, ℕ, zero, suc, ◌+◌, ◌*◌, ◌<�
 use borrow.Author.Differences.{ints}
 use Rattle.std.proofs.lemmas.List.{length-replicate}
 use Rattle.whole.specs.Lists.{at, coord}
-use Rattle.whole.specs.Sums.{sum}
+use Rattle.whole.specs.Sums.{sum_below}
 use Rattle.whole.specs.Tests.{above, nonzero, differ}
 use Rattle.whole.proofs.Sizes.{nat_abs_neg}
 use Rattle.whole.proofs.Integers.{neg-*}
@@ -25,8 +25,8 @@ above-nonzero (negsuc n) = beyond-above 0 (negsuc n) (omega arith)
 abbrev pub term : ℕ
 term = 2140200000000
 
-pub sum-none : (a : ℤ) (f : ℕ → ℤ) → a ≡ a +ℤ sum 0 f
-unfolding sum
+pub sum-none : (a : ℤ) (f : ℕ → ℤ) → a ≡ a +ℤ sum_below 0 f
+unfolding sum_below
 sum-none a f = omega (arith, ints)
 
 -- the first step: − d × the constant
@@ -58,18 +58,18 @@ module _ (size : ℕ) (d : ℤ) (q us ws : List ℤ) (sized : length q ≡ size)
 -- one term more
 module _ (size s : ℕ) (base : ℕ → ℤ) (vs : List (List ℤ)) (cs us v ws : List ℤ) (k : ℤ) (few : s < 48) (reading : k ≡ at cs s) (value : v ≡ get_or vs s []) (same : length us ≡ length v) (sized : length v ≡ size)
     (coefficient : nat_abs (at cs s) ≤ 1000) (small : (c : ℕ) → c < size → nat_abs (coord vs s c) ≤ 2140200000)
-    (so_far : (c : ℕ) → at us c ≡ base c +ℤ sum s (λ p. at cs p *ℤ coord vs p c)) (size-so-far : Within (term * (s + 1)) us) (is : ws ≡ cond (all_fit us k v) (plus_scaled us k v) us) where
+    (so_far : (c : ℕ) → at us c ≡ base c +ℤ sum_below s (λ p. at cs p *ℤ coord vs p c)) (size-so-far : Within (term * (s + 1)) us) (is : ws ≡ cond (all_fit us k v) (plus_scaled us k v) us) where
   factor : nat_abs k ≤ 1000
   factor = subst (λ (z : ℤ). nat_abs z ≤ 1000) (sym reading) coefficient
 
   within : Within 2140200000 v
   within = within_all 2140200000 size v sized (λ c l. subst (λ (u : List ℤ). nat_abs (at u c) ≤ 2140200000) (sym value) (small c l))
 
-  pub more_at : (c : ℕ) → at ws c ≡ base c +ℤ sum (s + 1) (λ p. at cs p *ℤ coord vs p c)
+  pub more_at : (c : ℕ) → at ws c ≡ base c +ℤ sum_below (s + 1) (λ p. at cs p *ℤ coord vs p c)
   more_at c =
       combined-at us k v ws (term * (s + 1)) 1000 2140200000 (omega arith) same factor size-so-far within is c
       ∙ ap₂ (λ (a b : ℤ). a +ℤ b) (so_far c) (ap₂ (λ (z : ℤ) (u : List ℤ). z *ℤ at u c) reading value)
-      ∙ grouped (base c) (sum s (λ p. at cs p *ℤ coord vs p c)) (at cs s *ℤ coord vs s c)
+      ∙ grouped (base c) (sum_below s (λ p. at cs p *ℤ coord vs p c)) (at cs s *ℤ coord vs s c)
       ∙ ap (λ (z : ℤ). base c +ℤ z) (sym (sum_more s (λ p. at cs p *ℤ coord vs p c)))
     where
       grouped : (a b e : ℤ) → (a +ℤ b) +ℤ e ≡ a +ℤ (b +ℤ e)
@@ -80,8 +80,8 @@ module _ (size s : ℕ) (base : ℕ → ℤ) (vs : List (List ℤ)) (cs us v ws 
 
 -- a gap is above 0 in size exactly where the two sides of the relation differ
 pub gap_differs : (n : ℕ) (d : ℤ) (vs : List (List ℤ)) (cs q : List ℤ) (z : ℤ) (c : ℕ) → z ≡ gap_at n d vs cs q c
-    → above 0 z ≡ differ (sum n (λ s. at (bond n cs q).coefs s *ℤ coord vs s c)) (d *ℤ at (bond n cs q).constant c)
-gap_differs n d vs cs q z c e = above-nonzero z ∙ ap nonzero (e ∙ turned (at q c) (sum n (λ s. at cs s *ℤ coord vs s c))
+    → above 0 z ≡ differ (sum_below n (λ s. at (bond n cs q).coefs s *ℤ coord vs s c)) (d *ℤ at (bond n cs q).constant c)
+gap_differs n d vs cs q z c e = above-nonzero z ∙ ap nonzero (e ∙ turned (at q c) (sum_below n (λ s. at cs s *ℤ coord vs s c))
     ∙ ap (λ (x : ℤ). x -ℤ d *ℤ at q c) (sum_ext n (λ s l. ap (λ (x : ℤ). x *ℤ coord vs s c) (sym (get_or-take n cs s (pos 0) l)))))
   where
     turned : (a b : ℤ) → neg_ℤ d *ℤ a +ℤ b ≡ b -ℤ d *ℤ a

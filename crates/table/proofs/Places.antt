@@ -3,7 +3,7 @@ use Rattle.std.proofs.Common.{◌≡◌, ℕ, zero, suc, ◌+◌, ◌-◌, ◌<�
 use Rattle.std.proofs.lemmas.List.{drop_more, set_at, get_or-append_right, get_or-drop}
 use Rattle.std.proofs.lemmas.Bool.{or_from}
 use Rattle.whole.specs.Lists.{tab}
-use Rattle.whole.specs.Sums.{sum}
+use Rattle.whole.specs.Sums.{sum_below}
 use Rattle.whole.specs.Tests.{any}
 
 -- `done` is written, the rest of `xs` is as it was
@@ -32,6 +32,6 @@ tab_more n f = ap (λ k. tab k f) (add-one n) ∙ tab_suc n f
 pub any_more : (n : ℕ) (p : ℕ → Bool) → any n p ≡ false → p n ≡ false → any (n + 1) p ≡ false
 any_more n p e f = ap (λ (k : ℕ). any k p) (add-one n) ∙ or_from (any n p) (p n) e f
 
-pub sum-none : (f : ℕ → ℤ) → sum 0 f ≡ pos 0
-unfolding sum
+pub sum-none : (f : ℕ → ℤ) → sum_below 0 f ≡ pos 0
+unfolding sum_below
 sum-none f = refl

@@ -4,7 +4,7 @@ ghost use Rattle.linear.specs.Gram.{gram};
 ghost use Rattle.table.specs.Limits.{Within, outside};
 ghost use Rattle.table.specs.Tables.{rows_grid};
 ghost use Rattle.whole.specs.Lists.{at, coord, tab};
-ghost use Rattle.whole.specs.Sums.{sum};
+ghost use Rattle.whole.specs.Sums.{sum_below};
 
 use crate::row::Row;
 
@@ -22,7 +22,7 @@ fn weighted_sum(shares: &[i64], xs: &[i64; 48], ys: &[i64; 48]) -> i64
     requires few { length shares.now ≤ 48 }
     requires shares { Within 12 (length shares.now) shares.now }
     requires rows { Within 1000 (length shares.now) xs.now × Within 1000 (length shares.now) ys.now }
-    ensures { result ≡ sum (length shares.now) (λ s. at shares.now s *ℤ (at xs.now s *ℤ at ys.now s)) }
+    ensures { result ≡ sum_below (length shares.now) (λ s. at shares.now s *ℤ (at xs.now s *ℤ at ys.now s)) }
 {
     let mut sum = 0;
     // by number: pairs within pairs took 1.7 times as long

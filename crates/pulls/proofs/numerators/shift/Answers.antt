@@ -2,7 +2,7 @@ use Rattle.std.proofs.Common.{◌≡◌, ℕ, ◌<◌, ◌≤◌, [], map, lengt
 use Rattle.std.proofs.lemmas.List.{get_or-map}
 use Rattle.std.proofs.lemmas.Int.{to_z-of_z}
 use Rattle.whole.specs.Lists.{at, coord}
-use Rattle.whole.specs.Sums.{sum}
+use Rattle.whole.specs.Sums.{sum_below}
 use Rattle.whole.proofs.Tests.{any_false, above_false}
 use Rattle.rules.specs.Sheets.{relation_at}
 use Rattle.workings.specs.Shown.{shown}
@@ -42,4 +42,4 @@ returns g c =
     let xs = c.args.multipliers.now in
     let all : c.loop-i.i ≡ length rows = omega (arith, c.loop-i-test.false, c.loop-i.auto.i-end) in
     tabbed g.K.Kind.size (f c.loop-i.sum) _ (g.met.K.Kind.laws.sized c.loop-i.sum)
-    (λ k l. c.loop-i.invariant k l ∙ ap (λ (n : ℕ). sum n (λ i. at (relation_at t.relations.now (get_or rows i 0)).coefficients c.args.s *ℤ coord (map f xs) i k)) all)
+    (λ k l. c.loop-i.invariant k l ∙ ap (λ (n : ℕ). sum_below n (λ i. at (relation_at t.relations.now (get_or rows i 0)).coefficients c.args.s *ℤ coord (map f xs) i k)) all)

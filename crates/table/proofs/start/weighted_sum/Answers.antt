@@ -1,7 +1,7 @@
 use Rattle.std.proofs.Common.{◌≡◌, ℕ, ◌+◌, ◌*◌, ◌≤◌, get_or, pos, ◌+ℤ◌, ◌*ℤ◌, nat_abs, sym, ◌∙◌, subst, arith, w64, SFits, to_z, of_z, rules}
 use Rattle.std.proofs.lemmas.Int.{to_z-of_z}
 use Rattle.whole.specs.Lists.{at}
-use Rattle.whole.specs.Sums.{sum}
+use Rattle.whole.specs.Sums.{sum_below}
 use Rattle.whole.proofs.Sizes.{nat_abs-+, fits}
 use Rattle.whole.proofs.Sums.{sum_more}
 use Rattle.table.proofs.Places.{sum-none}
@@ -31,5 +31,5 @@ loop-s-preserved c =
     let e0 : c.weighted-sum.result ≡ to_z w64 (of_z w64 (get_or c.args.shares.now c.loop-s.s (pos 0))) *ℤ (to_z w64 (of_z w64 (get_or c.args.xs.now c.loop-s.s (pos 0))) *ℤ to_z w64 (of_z w64 (get_or c.args.ys.now c.loop-s.s (pos 0)))) = c.weighted-sum.ensures.value in
     let e1 = simp to_z-of_z at e0 in
     let m = sum_more c.loop-s.s (λ (s : ℕ). at c.args.shares.now s *ℤ (at c.args.xs.now s *ℤ at c.args.ys.now s)) in
-    let i : c.loop-s.sum ≡ sum c.loop-s.s (λ (s : ℕ). at c.args.shares.now s *ℤ (at c.args.xs.now s *ℤ at c.args.ys.now s)) = sym b ∙ c.loop-s.invariant.0 in
+    let i : c.loop-s.sum ≡ sum_below c.loop-s.s (λ (s : ℕ). at c.args.shares.now s *ℤ (at c.args.xs.now s *ℤ at c.args.ys.now s)) = sym b ∙ c.loop-s.invariant.0 in
     (simp (to_z-of_z, b) (cc), simp (to_z-of_z, b) t)

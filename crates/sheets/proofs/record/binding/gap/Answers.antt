@@ -3,7 +3,7 @@ use borrow.Author.Differences.{ints}
 use Rattle.std.proofs.lemmas.Int.{to_z-of_z}
 use Rattle.std.proofs.lemmas.List.{get_or-map, length-take-le}
 use Rattle.whole.specs.Lists.{at, coord}
-use Rattle.whole.specs.Sums.{sum}
+use Rattle.whole.specs.Sums.{sum_below}
 use Rattle.std.proofs.lemmas.Slice.Zip.{zip_turn, zip_end}
 use Rattle.whole.proofs.Sizes.{fits}
 use Rattle.whole.proofs.Tests.{any_false, above_false}
@@ -57,7 +57,7 @@ loop-k-preserved g c =
     let base : ℕ → ℤ = λ k. at (f c.combine-sum.result) k in
     let long : length (c.loop-k.yielded ++ ((c.in-Some.k, c.in-Some.v) ∷ [])) ≡ s + 1 = length-append c.loop-k.yielded _ in (
       λ k. more_at size s base vs cs (f c.loop-k.sum) (f v) (f c.combine-sum-in-loop-k.result) _ few reading value same (sized _) coefficient small c.loop-k.invariant.0 c.loop-k.invariant.1 c.combine-sum-in-loop-k.ensures k
-          ∙ ap (λ (m : ℕ). base k +ℤ sum m (λ p. at cs p *ℤ coord vs p k)) (sym long),
+          ∙ ap (λ (m : ℕ). base k +ℤ sum_below m (λ p. at cs p *ℤ coord vs p k)) (sym long),
       subst (λ (m : ℕ). Within (term * (m + 1)) (f c.combine-sum-in-loop-k.result)) (sym long) (more_size size s base vs cs (f c.loop-k.sum) (f v) (f c.combine-sum-in-loop-k.result) _ few reading value same (sized _) coefficient small c.loop-k.invariant.0 c.loop-k.invariant.1 c.combine-sum-in-loop-k.ensures),
     )
 
@@ -75,4 +75,4 @@ returns g c =
     let n = length-take-le c.args.n cs c.requires.long in
     let stop = zip_end (take c.args.n cs) c.args.values.now c.loop-k.yielded c.into_iter-k-iterator.result c.loop-k.k-iterator c.next.new.self c.next.result (cc) (cc) c.loop-k.yielded_by c.in-None.is c.next.ensures.steps in
     let end : length c.loop-k.yielded ≡ c.args.n = omega (arith, c.requires.room) in
-    λ k. c.loop-k.invariant.0 k ∙ ap₂ (λ (z : ℤ) (n : ℕ). z +ℤ sum n (λ p. at cs p *ℤ coord vs p k)) (start-at size c.args.d q (f c.zero.result) (f c.combine-sum.result) sized fit.high small c.zero.ensures is k) end
+    λ k. c.loop-k.invariant.0 k ∙ ap₂ (λ (z : ℤ) (n : ℕ). z +ℤ sum_below n (λ p. at cs p *ℤ coord vs p k)) (start-at size c.args.d q (f c.zero.result) (f c.combine-sum.result) sized fit.high small c.zero.ensures is k) end
