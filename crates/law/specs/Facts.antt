@@ -15,7 +15,7 @@ use Rattle.rules.specs.Pulling.{Placing}
 use Rattle.rules.specs.Calls.{grip_on, grip_answer, marks_after, pulling}
 use Rattle.rules.specs.Runs.{pull, Reply, told}
 use Rattle.law.specs.Placings.{AllHold}
-use Rattle.law.specs.Histories.{Told}
+use Rattle.law.specs.Histories.{with_grip, Told}
 use Rattle.law.specs.Law.{LawfulReply}
 
 -- The table of the relations bs after k steps.
@@ -66,15 +66,18 @@ SpareExactly = (size : ℕ) (s : Sheet) (vs : List Coords) (rs : List Relation) 
     ↔ ((counts s.count ρ b.coefs ≡ true) × Combination s.count ρ (counted s.count ρ (take i (bonds s rs qs))) b)
 
 -- ---- pulling
--- The values of a sheet, and what is told of it by its lists and its grip's roles.
+-- The values of a sheet, and what is told of it by its lists and its grip's roles: it is gripped, and no
+-- proposal is told.
 abbrev pub values_of : Sheet → List Coords → Placing
 values_of s vs = record { over = s.d; nums = take s.count vs }
 
 abbrev pub told_by : Sheet → List Coords → List Relation → List Coords → List Role → Told
-told_by s vs rs qs roles = record { bound = bonds s rs qs; kept = values_of s vs; proposal = values_of s vs; roles = roles }
+told_by s vs rs qs roles = record { bound = bonds s rs qs; kept = values_of s vs; proposal = values_of s vs; roles = roles; stage = with_grip }
 
--- A pull with the workings of a grip on this sheet, whose bound relations hold for its values: unless it is refused with 1, 11 or 12 it is refused with 13 exactly when no
--- placing meets the bound relations, the held values and the pulled wishes; an accepted one proposes such a placing, and every other one is strictly farther from the wishes.
+-- A pull with the workings of a grip on this sheet, whose bound relations hold for its values. Unless it is
+-- refused with 1, 11 or 12 it is refused with 13 exactly when no placing meets the bound relations, the held
+-- values and the pulled wishes, and where it is not such a placing is given. An accepted one proposes such a
+-- placing, and every other one is strictly farther from the wishes.
 abbrev pub PulledRightly : ℕ → Sheet → List Coords → List Relation → List Coords → Workings → List Coords → Reply → Type 0
 PulledRightly size s vs rs qs w wishes r = (roles : List Role) → grip_on s.count roles (bonds s rs qs) ≡ Ok w → AllHold size s.count (bonds s rs qs) (values_of s vs)
     → LawfulReply size s.count (told_by s vs rs qs roles) (pull wishes) r

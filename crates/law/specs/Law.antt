@@ -1,5 +1,5 @@
 -- The law for runs, of a bare history: of the calls, what came back, and the sheet's values after each.
-use Rattle.std.specs.Prelude.{◌≡◌, ℕ, ◌≢◌, ◌↔◌, List, [], ◌∷◌, take, ℤ, Ok, Err}
+use Rattle.std.specs.Prelude.{◌≡◌, ℕ, true, false, ◌≢◌, ◌↔◌, List, [], ◌∷◌, take, ℤ, Ok, Err}
 use Rattle.linear.specs.Products.{InnerProduct}
 use Rattle.records.specs.declared.refusal.Refusal.TheVariants.{Unfit, WishTooFar, GapTooLarge, Impossible, NotOpen}
 use Rattle.records.specs.declared.relation.Relation.{Relation}
@@ -7,46 +7,56 @@ use Rattle.rules.specs.Values.{Coords}
 use Rattle.rules.specs.Sheets.{Sheet}
 use Rattle.rules.specs.Pulling.{Placing}
 use Rattle.rules.specs.Calls.{opening}
-use Rattle.rules.specs.Runs.{Use, Call, bind, unbind, grip, pull, keep, drop_grip, Given, placing, Reply, step, Answers, opened}
+use Rattle.rules.specs.Runs.{Use, Call, pull, Given, placing, Reply, step, Answers, opened}
 use Rattle.law.specs.Placings.{Shaped, Same, AllHold, Meets, Nearer}
-use Rattle.law.specs.Histories.{Entry, Told, at_opening, tell}
+use Rattle.law.specs.Histories.{Entry, Told, at_opening, tell, is_open}
 
 -- The sheet's values over d as a placing of n parameters.
 abbrev pub shown : ℕ → Entry → Placing
 shown n e = record { over = e.d; nums = take n e.values }
 
--- (a) The sheet's values are the kept values, over a denominator above 0, and every bound relation holds exactly for them.
+-- (a) The sheet's values over d are the kept values, over a denominator above 0, and every bound relation
+-- holds exactly for them. They are the kept ones number for number, which is more than the same fractions.
 pub record KeptAndHeld (size n : ℕ) (t : Told) (e : Entry) : Type 0 where
   pub shaped : Shaped size n (shown n e)
-  pub kept_shaped : Shaped size n t.kept
-  pub kept : Same size n (shown n e) t.kept
+  pub kept : shown n e ≡ t.kept
   pub holds : AllHold size n t.bound (shown n e)
+
+-- A call comes back with 19 exactly when it is not open, as the sheet stands by the history.
+abbrev pub OpenRightly : Told → Call → Reply → Type 0
+OpenRightly t k r = (r ≡ Err NotOpen) ↔ (is_open t.stage k ≡ false)
 
 -- A placing meets all that a pull to these wishes has to meet.
 abbrev pub MeetsAll : ℕ → ℕ → Told → List Coords → Placing → Type 0
 MeetsAll size n t wishes z = Meets size n t.bound t.roles t.kept wishes z
 
--- (b) A pull that comes back neither with 1, 11, 12 nor 19 is refused with 13 exactly when no placing meets all.
-abbrev pub RefusedRightly : ℕ → ℕ → Told → List Coords → Reply → Type 0
-RefusedRightly size n t wishes r = r ≢ Err Unfit → r ≢ Err WishTooFar → r ≢ Err GapTooLarge → r ≢ Err NotOpen
-    → (r ≡ Err Impossible) ↔ ((z : Placing) → ¬ (MeetsAll size n t wishes z))
+-- (b) An open pull that comes back neither with 1, 11 nor 12 is refused with 13 exactly when no placing
+-- meets all. Where it is not refused with 13 a placing that meets all is given: so also with 14 and 15.
+pub record Judged (size n : ℕ) (t : Told) (wishes : List Coords) (r : Reply) : Type 0 where
+  pub impossible : (r ≡ Err Impossible) ↔ ((z : Placing) → ¬ (MeetsAll size n t wishes z))
+  pub possible : r ≢ Err Impossible → (z : Placing) × MeetsAll size n t wishes z
 
--- (c) An accepted pull proposes a placing that meets all, and by every inner product every other one is strictly farther from the wishes.
+abbrev pub RefusedRightly : ℕ → ℕ → Told → List Coords → Reply → Type 0
+RefusedRightly size n t wishes r = is_open t.stage (pull wishes) ≡ true → r ≢ Err Unfit → r ≢ Err WishTooFar → r ≢ Err GapTooLarge
+    → Judged size n t wishes r
+
+-- (c) An accepted pull proposes a placing that meets all, and by every inner product every other one is
+-- strictly farther from the wishes.
 abbrev pub ProposesNearest : ℕ → ℕ → Told → List Coords → Reply → Type 0
 ProposesNearest size n t wishes r = (g : Given) → r ≡ Ok g → (p : Placing) × (g ≡ placing p) × MeetsAll size n t wishes p
-    × ((inner : Coords → Coords → ℤ) → InnerProduct size inner → (z : Placing) → MeetsAll size n t wishes z → ¬ (Same size n p z) → Nearer size inner n t.roles wishes p z)
+    × ((inner : Coords → Coords → ℤ) → InnerProduct size inner → (z : Placing) → MeetsAll size n t wishes z → ¬ (Same size n p z)
+    → Nearer size inner n t.roles wishes p z)
 
--- What the law says of a reply, by what was told before the call.
+-- What the law says of a pull's reply, by what was told before the call; of other calls' replies it says nothing more.
 abbrev pub LawfulReply : ℕ → ℕ → Told → Call → Reply → Type 0
-LawfulReply size n t (bind cs q) r = Unit {0}
-LawfulReply size n t (unbind i) r = Unit {0}
-LawfulReply size n t (grip roles) r = Unit {0}
 LawfulReply size n t (pull wishes) r = RefusedRightly size n t wishes r × ProposesNearest size n t wishes r
-LawfulReply size n t keep r = Unit {0}
-LawfulReply size n t drop_grip r = Unit {0}
+LawfulReply size n t k r = Unit {0}
 
-abbrev pub LawfulEntry : ℕ → ℕ → Told → Entry → Type 0
-LawfulEntry size n t e = KeptAndHeld size n (tell n t e.call e.reply) e × LawfulReply size n t e.call e.reply
+-- An entry is lawful by what was told before it; its values by what is told with it.
+pub record LawfulEntry (size n : ℕ) (t : Told) (e : Entry) : Type 0 where
+  pub kept_and_held : KeptAndHeld size n (tell n t e.call e.reply) e
+  pub open_rightly : OpenRightly t e.call e.reply
+  pub lawful_reply : LawfulReply size n t e.call e.reply
 
 -- Every entry is lawful, by what the entries before it told.
 abbrev pub LawfulFrom : ℕ → ℕ → Told → List Entry → Type 0

@@ -1,10 +1,26 @@
--- A run of calls on a sheet.
+-- Runs of calls on a sheet.
 use Rattle.std.specs.Prelude.{◌≡◌, ℕ, List, [], ◌∷◌, map}
 use Rattle.rules.specs.Pulling.{Placing}
-use Rattle.rules.specs.Runs.{Use, Call, Reply}
+use Rattle.rules.specs.Runs.{Use, Call, Reply, step}
 use Rattle.law.specs.Histories.{Entry, at_opening}
 use Rattle.law.specs.Law.{shown, Lawful, Made}
-use Rattle.law.specs.Plenty.{LongCalls, NeverUnfit}
+use Rattle.law.specs.Plenty.{LongLists, LongCalls, NeverUnfit}
+
+-- What the calls share after a history, from what they shared before it.
+abbrev pub use_after : ℕ → Use → List Entry → Use
+use_after size u [] = u
+use_after size u (e ∷ h) = use_after size (step size u e.call).then h
+
+-- On a sheet of n parameters in use, just opened, these calls made this history.
+pub record Ran (size n : ℕ) (u : Use) (calls : List Call) (h : List Entry) : Type 0 where
+  -- one entry to a call, in their order
+  pub calls_are : map (λ e. e.call) h ≡ calls
+  -- the law for runs
+  pub lawful : Lawful size n h
+  -- what came back, and the values after each call, are what the rules say
+  pub by_rules : Made size u h
+  -- where the lists are long enough no call is refused with 1
+  pub fits : LongLists n u → LongCalls n h → NeverUnfit h
 
 -- The sheet's values after a history, from those before it.
 abbrev pub shown_from : ℕ → Placing → List Entry → Placing
