@@ -4,6 +4,7 @@ pub mod Multipliers
 pub mod Offers
 pub mod Solved
 pub mod Pulls
+pub mod Opens
 pub mod Steps
 pub mod Runs
 pub mod Series

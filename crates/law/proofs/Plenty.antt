@@ -1,5 +1,6 @@
 -- Where the lists are long enough no call gives 1: they fit at the opening, and each call keeps them so.
 use Rattle.std.proofs.Common.{◌≡◌, ℕ, zero, suc, ◌+◌, ◌-◌, ◌*◌, ◌<◌, ◌≤◌, Bool, false, not, ◌||◌, eqb, ltb, leb, ◌≢◌, List, [], ◌∷◌, length, get_or, take, set, replicate, ℤ, pos, nat_abs, ◌<ℤ◌, Ok, Err, Result, sym, refl, ap, ◌∙◌, subst, ap₂, ⊎_elim, not-suc-le-zero, arith}
+use mathlib.Core.Bool.{true≢false}
 use lib.Signed.{lt_z}
 use borrow.Author.Differences.{ints}
 use Rattle.std.proofs.lemmas.List.{length-set, length-replicate, get_or-set_same, get_or-set_other}
@@ -16,7 +17,7 @@ use Rattle.records.specs.declared.role.Role.{Role}
 use Rattle.rules.specs.Limits.{most_parameters, most_relations, most_counted, most_residual, working_places}
 use Rattle.rules.specs.Values.{Coords, zeros, written}
 use Rattle.rules.specs.Sheets.{Sheet, Bond, bond, bonds, relation_at, Workings, bad_denominator, bad_values, bad_coefs, bad_constant, bad_relation, unfit_values, unfit_relations, unfit}
-use Rattle.rules.specs.Gripping.{role, counted, coef, share, bad_roles, table, marked, with_mark, mark_of}
+use Rattle.rules.specs.Gripping.{role, counted, coef, share, shares, bad_roles, table, marked, with_mark, mark_of}
 use Rattle.rules.specs.Pulling.{Placing, far_wish, residuals, carried, some_above, contradicts}
 use Rattle.rules.specs.Calls as Calls
 use Rattle.rules.specs.Calls.{opening, untrue, recorded, closed, bind_answer, bind_by, unbind_answer, unbind_by, grip_answer, unfit_pull}
@@ -32,15 +33,12 @@ use Rattle.law.specs.Plenty.{LongLists, LongCall, LongCalls, NeverUnfit, FitsAlw
 use Rattle.law.proofs.Divided.{coord-grid}
 use Rattle.law.proofs.Facts.{accepted-grip}
 use Rattle.law.proofs.Pulls.{answer, is_accepted, outcome, pulled_is}
-use Rattle.law.proofs.Refusals.{fine, guarded, open_guard, same_refusal, onwards}
-use Rattle.law.proofs.Solved.{solved_refusals}
+use Rattle.law.proofs.Refusals.{fine, same_refusal, defined_too, Beside, bind_refusals, unbind_refusals, grip_refusals, pull_refusals}
 use Rattle.law.proofs.Runs.{stands_opened, stands_on}
 
--- ---- results that are not refused with 1
-eliminates : (m k : ℕ) (t : Grid) → eliminated m k t ≢ Err Unfit
-eliminates m zero t = guarded (beyond m t) TableTooLarge (Ok t) (λ q. omega arith) (fine t)
-eliminates m (suc k) t = onwards (eliminated m k t) (λ x. within_limit m (step m k x)) (eliminates m k t)
-    (λ x. guarded (beyond m (step m k x)) TableTooLarge (Ok (step m k x)) (λ q. omega arith) (fine (step m k x)))
+-- 1 is no other refusal
+beside : (low high : ℕ) → 2 ≤ low → Beside low high Unfit
+beside low high l x a b q = omega arith
 
 -- ---- what fits
 abbrev GripFits : Use → Workings → Type 0
@@ -103,17 +101,13 @@ module _ (size n : ℕ) (t : Told) (u : Use) (S : Standing size n t u) (F : Fitt
 
   -- ---- binding
   bind_fine : (cs : List ℤ) (q : Coords) → n ≤ length cs → (a : Result (Unit {0}) Refusal) → bind_answer size s u.values rs qs cs q ≡ a → Fine (rebound u (bind_by a s rs qs cs q))
-  bind_fine cs q long (Err k) e = (freely, λ z. never (e ∙ same_refusal k Unfit z))
+  bind_fine cs q long (Err k) e = (
+    freely,
+    λ z. true≢false (sym (bind_refusals Unfit size s u.values rs qs (beside 3 6 (omega arith)) cs q (e ∙ same_refusal k Unfit z)).0 ∙ test),
+  )
     where
       test : (ltb (length cs) s.count || unfit size s u.values rs qs) ≡ false
       test = let c = S.count_is in or_from (ltb (length cs) s.count) _ (le-ltb _ _ (omega arith)) F.fits
-
-      never : bind_answer size s u.values rs qs cs q ≢ Err Unfit
-      never z = guarded (leb most_relations s.bound) Full _ (λ y. omega arith)
-          (guarded (not (any s.count (λ p. nonzero (at cs p))) || bad_coefs s.count cs) Coefficients _ (λ y. omega arith)
-          (guarded (bad_constant size q) Constant _ (λ y. omega arith)
-          (guarded (untrue size s.count s.d u.values (bond s.count cs q)) Untrue (Ok tt) (λ y. omega arith) (fine tt))))
-          (sym (open_guard (ltb (length cs) s.count || unfit size s u.values rs qs) Unfit _ test) ∙ z)
   bind_fine cs q long (Ok x) e =
       let B = bindable size s u.values rs qs cs q x e in
       let few = B.few in (
@@ -151,11 +145,10 @@ module _ (size n : ℕ) (t : Told) (u : Use) (S : Standing size n t u) (F : Fitt
 
   -- ---- unbinding
   unbind_fine : (i : ℤ) (a : Result (Unit {0}) Refusal) → unbind_answer size s u.values rs qs i ≡ a → Fine (rebound u (unbind_by a s rs qs (nat_abs i)))
-  unbind_fine i (Err k) e = (freely, λ z. never (e ∙ same_refusal k Unfit z))
-    where
-      never : unbind_answer size s u.values rs qs i ≢ Err Unfit
-      never z = guarded (lt_z i (pos 0) || not (lt_z i (pos s.bound))) NoRelation (Ok tt) (λ y. omega arith) (fine tt)
-          (sym (open_guard (unfit size s u.values rs qs) Unfit _ F.fits) ∙ z)
+  unbind_fine i (Err k) e = (
+    freely,
+    λ z. true≢false (sym (unbind_refusals Unfit size s u.values rs qs (beside 7 7 (omega arith)) i (e ∙ same_refusal k Unfit z)).0 ∙ F.fits),
+  )
   unbind_fine i (Ok x) e =
       let k = nat_abs i in
       let lt = (unbindable size s u.values rs qs i x e).1 in
@@ -188,19 +181,10 @@ module _ (size n : ℕ) (t : Told) (u : Use) (S : Standing size n t u) (F : Fitt
       (or_from (ltb (length roles) s.count) _ (le-ltb _ _ (omega arith)) (le-ltb _ _ (omega (arith, F.lists.spare_list)))) F.fits
 
   grip_fine : (roles : List Role) → n ≤ length roles → (a : Result Workings Refusal) → grip_answer size s u.values rs qs roles slots ≡ a → Fine (held_by u a)
-  grip_fine roles long (Err k) e = (F, λ z. never (e ∙ same_refusal k Unfit z))
-    where
-      ρ : List Role
-      ρ = take s.count roles
-
-      bs : List Bond
-      bs = counted s.count ρ (bonds s rs qs)
-
-      never : grip_answer size s u.values rs qs roles slots ≢ Err Unfit
-      never z = guarded (bad_roles s.count ρ) Roles _ (λ y. omega arith)
-          (guarded (ltb most_counted (length bs)) Crowded _ (λ y. omega arith)
-          (onwards (table s.count ρ bs) _ (eliminates (length bs) (length bs) (start s.count (length bs) (λ p. share (role ρ p)) (coef bs))) (λ y. fine _)))
-          (sym (open_guard (ltb (length roles) s.count || ltb (length slots) most_counted || unfit size s u.values rs qs) Unfit _ (grip_test roles long)) ∙ z)
+  grip_fine roles long (Err k) e = (
+    F,
+    λ z. true≢false (sym (grip_refusals Unfit size s u.values rs qs (beside 8 10 (omega arith)) roles slots (e ∙ same_refusal k Unfit z)).0 ∙ grip_test roles long),
+  )
   grip_fine roles long (Ok w) e = (
     record {
       lists = record { relations = longer; constants = F.lists.constants; proposal = F.lists.proposal; working = F.lists.working; spare_list = F.lists.spare_list };
@@ -237,14 +221,7 @@ module _ (size n : ℕ) (t : Told) (u : Use) (S : Standing size n t u) (F : Fitt
         (not_from_true _ (eq-eqb _ _ W.0))) (not_from_true _ (eq-eqb _ _ W.1))
 
     never : answer size n t u S w G wishes ≢ Err Unfit
-    never =
-        let m = length (counted n t.roles t.bound) in
-        let cs = residuals size n t.roles (counted n t.roles t.bound) s.d u.values wishes in
-        let gs = carried size m w.table cs in
-        guarded (far_wish size n t.roles wishes) WishTooFar _ (λ y. omega arith)
-        (guarded (some_above most_residual size m cs) GapTooLarge _ (λ y. omega arith)
-        (guarded (contradicts size m w.table gs) Impossible _ (λ y. omega arith)
-        (solved_refusals size n t.roles (counted n t.roles t.bound) w.table s.d u.values wishes gs Unfit (λ y. omega arith) (λ y. omega arith))))
+    never = pull_refusals Unfit size n t.roles (shares n t.roles) (counted n t.roles t.bound) w.table s.d u.values wishes (beside 11 15 (omega arith))
 
     blank : working_places ≤ length (written working_places (zeros working_places size) u.working)
     blank = let z = zeros-length working_places size in subst (λ (k : ℕ). working_places ≤ k) (sym (length-written working_places (zeros working_places size) u.working (omega arith) F.lists.working)) F.lists.working
@@ -335,18 +312,12 @@ module _ (size n : ℕ) (t : Told) (u : Use) (S : Standing size n t u) (F : Fitt
   next_fine (proposing w e) P Q drop_grip l = (freely, fine nothing)
 
 -- ---- the induction
-defined_too : (r x : Reply) → Answers r x → x ≡ Err Unfit → r ≡ Err Unfit
-defined_too (Ok nothing) x h e = absurd (fine nothing (sym h ∙ e))
-defined_too (Ok (spares xs)) x h e = absurd (fine (spares h.0) (sym h.1 ∙ e))
-defined_too (Ok (placing p)) x h e = absurd (fine (placing p) (sym h ∙ e))
-defined_too (Err k) x h e = sym h ∙ e
-
 fits_on : (size n : ℕ) (t : Told) (u : Use) → Standing size n t u → Fitting size n u → (h : List Entry) → Made size u h → LongCalls n h → NeverUnfit h
 fits_on size n t u S F [] m l = tt
 fits_on size n t u S F (e ∷ h) m l =
     let a = stands_on size n t u S e m.0 in
     let f = next_fine size n t u S F u.phase S.phase_is F.phase-fits e.call l.0 in (
-      (λ q. f.1 (defined_too (Runs.step size u e.call).reply e.reply m.0.reply q)),
+      (λ q. f.1 (defined_too Unfit (Runs.step size u e.call).reply e.reply m.0.reply q)),
       fits_on size n (tell n t e.call e.reply) (Runs.step size u e.call).then a.0 f.0 h m.1 l.1,
     )
 

@@ -19,7 +19,7 @@ use Rattle.law.specs.Placings.{Shaped, AllHold}
 use Rattle.law.specs.Facts.{values_of, told_by, PulledRightly, PullsRightly}
 use Rattle.law.specs.Standing.{GrippedWell, Standing}
 use Rattle.law.proofs.Facts.{gripped_on, gripped-well}
-use Rattle.law.proofs.Pulls.{pull_stands}
+use Rattle.law.proofs.Pulls.{pull_lawful}
 
 module _ (size : ℕ) (s : Sheet) (vs : List Coords) (rs : List Relation) (qs : List Coords) (w : Workings) (wishes proposal working : List Coords)
     (few : s.bound ≤ most_relations) (sized : (i : ℕ) → i < length vs → length (get_or vs i []) ≡ size) where
@@ -46,13 +46,13 @@ module _ (size : ℕ) (s : Sheet) (vs : List Coords) (rs : List Relation) (qs : 
     well = gripped-well n roles (bonds s rs qs) w (gripped_on n roles (bonds s rs qs) w g)
 
     stands : unfit size s vs rs qs ≡ false → Standing size n (told_by s vs rs qs roles) u
-    stands e = record { count_is = refl; few = few; bound_is = refl; over_is = refl; values_are = refl; shaped = shaped e; holds = holds; phase_is = well }
+    stands e = record { count_is = refl; few = few; bound_is = refl; over_is = refl; values_are = refl; shaped = shaped e; holds = holds; stage_is = refl; phase_is = well }
 
   by_fit : let P = pulling size s vs rs qs w wishes proposal working in PulledRightly size s vs rs qs w wishes (told n P.1 P.0)
   by_fit = cond_both (unfit_pull size s vs rs qs w wishes proposal working) _ _ (λ (P : Calls.Pulled). PulledRightly size s vs rs qs w wishes (told n P.1 P.0))
-      (λ e roles g holds. ((λ d1 d11 d12 d19. absurd (d1 refl)), λ x h. absurd (not_accepted Unfit x h)))
+      (λ e roles g holds. ((λ is_open d1 d11 d12. absurd (d1 refl)), λ x h. absurd (not_accepted Unfit x h)))
       (λ e roles g holds. subst (λ (P : Calls.Pulled). Rattle.law.specs.Law.LawfulReply size n (told_by s vs rs qs roles) (Rattle.rules.specs.Runs.pull wishes) (told n P.1 P.0)) (cond-false (unfit_pull size s vs rs qs w wishes proposal working) _ _ e)
-      (pull_stands size n (told_by s vs rs qs roles) u (stands roles g holds (pullable size s vs rs qs w wishes proposal working e).1) w (well roles g holds) wishes).1)
+      (pull_lawful size n (told_by s vs rs qs roles) u (stands roles g holds (pullable size s vs rs qs w wishes proposal working e).1) w (well roles g holds) wishes))
 
 pub pulls_rightly : PullsRightly
 pulls_rightly = by_fit

@@ -1,5 +1,5 @@
 -- The answer of a pull whose lists and workings fit: refused with 13 where no placing meets all, and else the nearest one, or another refusal.
-use Rattle.std.proofs.Common.{◌≡◌, ℕ, ◌<◌, Bool, true, false, ◌≢◌, List, [], ◌∷◌, length, ℤ, pos, ◌+ℤ◌, ◌*ℤ◌, ◌<ℤ◌, Ok, Err, Result, sym, refl, ap, ◌∙◌, subst, ⊎_elim, arith}
+use Rattle.std.proofs.Common.{◌≡◌, ℕ, ◌<◌, Bool, true, false, ◌≢◌, ◌⊎◌, List, [], ◌∷◌, length, ℤ, pos, ◌+ℤ◌, ◌*ℤ◌, ◌<ℤ◌, Ok, Err, Result, sym, refl, ap, ◌∙◌, subst, inl, inr, arith}
 use lib.Signed.{quot_z, lt_z}
 use borrow.Author.Differences.{ints}
 use Rattle.whole.specs.Lists.{tab, coord}
@@ -11,7 +11,7 @@ use Rattle.linear.specs.Elimination.{Grid}
 use Rattle.linear.specs.Meaning.{Meaning}
 use Rattle.linear.specs.Products.{InnerProduct}
 use Rattle.linear.specs.Placings as Low
-use Rattle.linear.proofs.Outcomes.{passed, refused_by, not_by}
+use Rattle.linear.proofs.Outcomes.{passed, not_by}
 use Rattle.linear.proofs.Solving.{infeasible, placed-meets}
 use Rattle.linear.proofs.Nearest.{nearest}
 use Rattle.linear.proofs.Lowest as Reduced
@@ -30,7 +30,7 @@ use Rattle.law.proofs.Divided as Divided
 use Rattle.law.proofs.Divided.{coord-grid, over-exact, coord-exact, h-above}
 use Rattle.law.proofs.Multipliers as Multipliers
 use Rattle.law.proofs.Multipliers.{hs, l, xs, l_above, loud}
-use Rattle.law.proofs.Refusals.{fine, later, guarded}
+use Rattle.law.proofs.Refusals.{solved_refusals}
 use Rattle.law.proofs.Offers.{V, W, base, lack, carried_is, numerators_are, weighted, shares-≥0, meets_there, agrees_there, meets_here, nearer_here}
 
 pub grid-shaped : (size n : ℕ) (e : ℤ) (f : ℕ → ℕ → ℤ) → pos 0 <ℤ e → Shaped size n (record { over = e; nums = grid n size f })
@@ -39,15 +39,6 @@ grid-shaped size n e f h = record {
   values = tab-length n (λ s. tab size (f s));
   coordinates = λ s u. ap (λ (x : Coords). length x) (get_or-tab n (λ s. tab size (f s)) [] s u) ∙ tab-length size (f s);
 }
-
--- what follows 13 is refused with 14 or 15 alone
-pub solved_refusals : (size n : ℕ) (roles : List Role) (bs : List Bond) (t : Grid) (d : ℤ) (values wishes gs : List Coords) (e : Refusal) → 14 ≢ number_of e → 15 ≢ number_of e
-    → solved size n roles (shares n roles) bs t d values wishes gs ≢ Err e
-solved_refusals size n roles bs t d values wishes gs e fourteen fifteen =
-    let m = length bs in
-    let p = lowest size n (pos (l size m t gs) *ℤ d) (numerators size n roles (shares n roles) bs (l size m t gs) d values wishes (xs size m t gs)) in
-    guarded (too_fine size m t (l size m t gs) (lowered_sums size m gs (hs size m t gs)) (xs size m t gs)) TooFine (settled size n p) fourteen
-    (guarded (lt_z (pos most_denominator) p.over) TooFine _ fourteen (guarded (bad_values size n p.over p.nums) OffSheet (Ok p) fifteen (fine p)))
 
 module _ (size n : ℕ) (roles : List Role) (bs : List Bond) (t : Grid) (d : ℤ) (values wishes : List Coords) (kept : Placing)
     (weights : (s : ℕ) → s < n → bad_weight (role roles s) ≡ false)
@@ -165,22 +156,18 @@ module _ (size n : ℕ) (roles : List Role) (bs : List Bond) (t : Grid) (d : ℤ
         same h a b = let w : p ≡ q = cc in (w, subst (λ (x : Placing). lt_z (pos most_denominator) x.over ≡ false) w a, subst (λ (x : Placing). bad_values size n x.over x.nums ≡ false) w b)
 
   -- ---- the whole answer
-  pub refused-13 : answer ≡ Err Impossible → (z : Placing) → ¬ (MeetsThese z)
-  refused-13 h =
-      let a = later (far_wish size n roles wishes) WishTooFar Impossible (guard (some_above most_residual size m cs) GapTooLarge (guard (contradicts size m t gs) Impossible rest)) (λ y. omega arith) h in
-      let b = later (some_above most_residual size m cs) GapTooLarge Impossible (guard (contradicts size m t gs) Impossible rest) (λ y. omega arith) a in
-      ⊎_elim (λ c. thirteen c.0) (λ c. absurd (solved_refusals size n roles rs t d values wishes gs Impossible (λ y. omega arith) (λ y. omega arith) c.1))
-      (refused_by (contradicts size m t gs) Impossible rest Impossible b)
-
-  pub none-13 : answer ≢ Err WishTooFar → answer ≢ Err GapTooLarge → ((z : Placing) → ¬ (MeetsThese z)) → answer ≡ Err Impossible
-  none-13 d11 d12 none =
+  -- not refused for its wishes or its residuals, it is refused with 13 and nothing meets all, or it is not and something does
+  pub judged : answer ≢ Err WishTooFar → answer ≢ Err GapTooLarge
+      → ((answer ≡ Err Impossible) × ((z : Placing) → ¬ (MeetsThese z))) ⊎ ((answer ≢ Err Impossible) × ((z : Placing) × MeetsThese z))
+  judged d11 d12 =
       let a = not_by (far_wish size n roles wishes) WishTooFar (guard (some_above most_residual size m cs) GapTooLarge (guard (contradicts size m t gs) Impossible rest)) d11 in
       let b = not_by (some_above most_residual size m cs) GapTooLarge (guard (contradicts size m t gs) Impossible rest) (λ e. d12 (a.1 ∙ e)) in
-      a.1 ∙ b.1 ∙ by (contradicts size m t gs) refl
+      by (contradicts size m t gs) refl (a.1 ∙ b.1)
     where
-      by : (x : Bool) → contradicts size m t gs ≡ x → guard x Impossible rest ≡ Err Impossible
-      by true e = refl
-      by false e = absurd (none (p e) (p_meets e))
+      by : (x : Bool) → contradicts size m t gs ≡ x → answer ≡ guard x Impossible rest
+          → ((answer ≡ Err Impossible) × ((z : Placing) → ¬ (MeetsThese z))) ⊎ ((answer ≢ Err Impossible) × ((z : Placing) × MeetsThese z))
+      by true e q = inl (q, thirteen e)
+      by false e q = inr ((λ h. solved_refusals Impossible size n roles (shares n roles) rs t d values wishes gs (λ x a b c. omega arith) (sym q ∙ h)), (p e, p_meets e))
 
   -- an accepted proposal is the nearest placing that meets all, within its limits
   pub record Accepted (q : Placing) : Type 0 where

@@ -1,5 +1,6 @@
 -- Each call keeps what stands between the sheet in use and what its history told.
 use Rattle.std.proofs.Common.{◌≡◌, ℕ, ◌+◌, ◌<◌, ◌≤◌, ◌||◌, List, [], ◌∷◌, ◌++◌, length, take, replicate, ℤ, ◌*ℤ◌, nat_abs, Ok, Err, Result, sym, refl, ap, ◌∙◌, subst, ⊎_elim, arith}
+use mathlib.Core.Bool.{false≢true}
 use Rattle.std.specs.List.{remove}
 use Rattle.std.proofs.lemmas.List.Edits.{length-remove, get_or-remove_below, get_or-remove_above}
 use Rattle.std.proofs.lemmas.List.{get_or_append_left, get_or_push, length_push}
@@ -17,16 +18,16 @@ use Rattle.rules.specs.Values.{Coords, written}
 use Rattle.rules.specs.Sheets.{Sheet, Bond, bond, no_bond, bonds, Workings, unfit_values, unfit}
 use Rattle.rules.specs.Pulling.{Placing}
 use Rattle.rules.specs.Calls.{Bound, binding, unbinding, bind_answer, bind_by, unbind_answer, unbind_by, grip_answer, keeping, pulling}
-use Rattle.rules.specs.Runs.{Phase, free, gripped, proposing, Use, Call, bind, unbind, grip, pull, keep, drop_grip, nothing, Reply, Answers, reply_to, rebound, held_by, told, freed, in_turn}
+use Rattle.rules.specs.Runs.{Phase, free, gripped, proposing, Use, Call, bind, unbind, grip, pull, keep, drop_grip, nothing, Reply, Answers, reply_to, rebound, held_by, told, freed, pulls, in_turn}
 use Rattle.rules.proofs.Accepted.{bindable, unbindable}
 use Rattle.rules.proofs.Bonds.{nth, bonds-bound, bonds-unbound, bonds-marked, take-written}
 use Rattle.rules.proofs.Fit.{fit_values, long_lists}
 use Rattle.law.specs.Placings.{Holds, AllHold}
-use Rattle.law.specs.Histories.{Told, tell}
+use Rattle.law.specs.Histories.{Stage, no_grip, with_grip, Told, without_proposal, after_refusal, tell, is_open}
 use Rattle.law.specs.Law.{LawfulReply}
-use Rattle.law.specs.Standing.{GrippedWell, ProposedWell, PhaseStands, Standing}
+use Rattle.law.specs.Standing.{GrippedWell, ProposedWell, PhaseStands, stage_of, Standing}
 use Rattle.law.proofs.Facts.{accepted-grip, gripped-well}
-use Rattle.law.proofs.Pulls.{kept-nums, pull_stands}
+use Rattle.law.proofs.Pulls.{kept-nums, rephased, pull_lawful, pull_stands}
 
 -- ---- relations added and removed
 module _ (size n : ℕ) (p : Placing) where
@@ -64,49 +65,52 @@ module _ (size n : ℕ) (t : Told) (u : Use) (S : Standing size n t u) where
       ∙ h c l ∙ ap (λ x. x *ℤ at b.constant c) S.over_is
 
   -- without a grip it stands too
-  freely : Standing size n t (freed u (Ok s) u.values).then
-  freely = record { count_is = S.count_is; few = S.few; bound_is = S.bound_is; over_is = S.over_is; values_are = S.values_are; shaped = S.shaped; holds = S.holds; phase_is = tt }
+  freely : (stage : Stage) → no_grip ≡ stage → Standing size n (record t { stage = stage }) (freed u (Ok s) u.values).then
+  freely stage e = rephased size n t u S t.proposal stage u.proposal u.working free e tt
 
-  -- ---- binding
-  bind_stands : (cs : List ℤ) (q : Coords) (a : Result (Unit {0}) Refusal) → bind_answer size s u.values u.relations u.constants cs q ≡ a
-      → let o = rebound u (bind_by a s u.relations u.constants cs q) in Standing size n (tell n t (bind cs q) o.reply) o.then
-  bind_stands cs q (Err k) e = freely
-  bind_stands cs q (Ok x) e =
-      let B = bindable size s u.values u.relations u.constants cs q x e in
-      let L = long_lists size s u.values u.relations u.constants B.fits in
-      let few = B.few in
-      record {
-        count_is = S.count_is;
-        few = omega arith;
-        bound_is = bonds-bound s.count s.bound s.d s.d u.relations u.constants cs q (omega (arith, L.relations_long)) (omega (arith, L.constants_long)) B.long
-            ∙ (λ i. S.bound_is i ++ (bond (S.count_is i) cs q ∷ []));
-        over_is = S.over_is;
-        values_are = S.values_are;
-        shaped = S.shaped;
-        holds = all_more size n t.kept t.bound (bond n cs q) S.holds (subst (λ (N : ℕ). Holds size n t.kept (bond N cs q)) S.count_is
-            (for_kept (bond s.count cs q) (λ c l. differ_false _ _ (any_false size _ B.holds c l))));
-        phase_is = tt;
-      }
+  module _ (none : no_grip ≡ t.stage) where
+    -- ---- binding
+    bind_stands : (cs : List ℤ) (q : Coords) (a : Result (Unit {0}) Refusal) → bind_answer size s u.values u.relations u.constants cs q ≡ a
+        → let o = rebound u (bind_by a s u.relations u.constants cs q) in Standing size n (tell n t (bind cs q) o.reply) o.then
+    bind_stands cs q (Err k) e = freely t.stage none
+    bind_stands cs q (Ok x) e =
+        let B = bindable size s u.values u.relations u.constants cs q x e in
+        let L = long_lists size s u.values u.relations u.constants B.fits in
+        let few = B.few in
+        record {
+          count_is = S.count_is;
+          few = omega arith;
+          bound_is = bonds-bound s.count s.bound s.d s.d u.relations u.constants cs q (omega (arith, L.relations_long)) (omega (arith, L.constants_long)) B.long
+              ∙ (λ i. S.bound_is i ++ (bond (S.count_is i) cs q ∷ []));
+          over_is = S.over_is;
+          values_are = S.values_are;
+          shaped = S.shaped;
+          holds = all_more size n t.kept t.bound (bond n cs q) S.holds (subst (λ (N : ℕ). Holds size n t.kept (bond N cs q)) S.count_is
+              (for_kept (bond s.count cs q) (λ c l. differ_false _ _ (any_false size _ B.holds c l))));
+          stage_is = none;
+          phase_is = tt;
+        }
 
-  -- ---- unbinding
-  unbind_stands : (i : ℤ) (a : Result (Unit {0}) Refusal) → unbind_answer size s u.values u.relations u.constants i ≡ a
-      → let o = rebound u (unbind_by a s u.relations u.constants (nat_abs i)) in Standing size n (tell n t (unbind i) o.reply) o.then
-  unbind_stands i (Err k) e = freely
-  unbind_stands i (Ok x) e =
-      let B = unbindable size s u.values u.relations u.constants i x e in
-      let L = long_lists size s u.values u.relations u.constants B.0 in
-      let lt = B.1 in
-      let long = ap (λ (xs : List Bond). length xs) (sym S.bound_is) ∙ tab-length s.bound (nth s.count u.relations u.constants) in
-      record {
-        count_is = S.count_is;
-        few = let f = S.few in omega arith;
-        bound_is = bonds-unbound s.count s.bound s.d s.d u.relations u.constants (nat_abs i) lt (let f = S.few in omega (arith, L.relations_long)) (let f = S.few in omega (arith, L.constants_long)) ∙ ap (λ (xs : List Bond). remove xs (nat_abs i)) S.bound_is;
-        over_is = S.over_is;
-        values_are = S.values_are;
-        shaped = S.shaped;
-        holds = all_removed size n t.kept t.bound (nat_abs i) (omega arith) S.holds;
-        phase_is = tt;
-      }
+    -- ---- unbinding
+    unbind_stands : (i : ℤ) (a : Result (Unit {0}) Refusal) → unbind_answer size s u.values u.relations u.constants i ≡ a
+        → let o = rebound u (unbind_by a s u.relations u.constants (nat_abs i)) in Standing size n (tell n t (unbind i) o.reply) o.then
+    unbind_stands i (Err k) e = freely t.stage none
+    unbind_stands i (Ok x) e =
+        let B = unbindable size s u.values u.relations u.constants i x e in
+        let L = long_lists size s u.values u.relations u.constants B.0 in
+        let lt = B.1 in
+        let long = ap (λ (xs : List Bond). length xs) (sym S.bound_is) ∙ tab-length s.bound (nth s.count u.relations u.constants) in
+        record {
+          count_is = S.count_is;
+          few = let f = S.few in omega arith;
+          bound_is = bonds-unbound s.count s.bound s.d s.d u.relations u.constants (nat_abs i) lt (let f = S.few in omega (arith, L.relations_long)) (let f = S.few in omega (arith, L.constants_long)) ∙ ap (λ (xs : List Bond). remove xs (nat_abs i)) S.bound_is;
+          over_is = S.over_is;
+          values_are = S.values_are;
+          shaped = S.shaped;
+          holds = all_removed size n t.kept t.bound (nat_abs i) (omega arith) S.holds;
+          stage_is = none;
+          phase_is = tt;
+        }
 
   -- ---- gripping
   told-grip : (roles : List Role) (w : Workings) → GrippedWell s.count bs (take s.count roles) w → GrippedWell n t.bound (take n roles) w
@@ -123,6 +127,7 @@ module _ (size n : ℕ) (t : Told) (u : Use) (S : Standing size n t u) where
     values_are = S.values_are;
     shaped = S.shaped;
     holds = S.holds;
+    stage_is = refl;
     phase_is = told-grip roles w (gripped-well s.count (take s.count roles) bs w (accepted-grip size s u.values u.relations u.constants roles (replicate u.places 0) w e));
   })
 
@@ -139,6 +144,7 @@ module _ (size n : ℕ) (t : Told) (u : Use) (S : Standing size n t u) where
         values_are = values (fit_values size s.count e u.proposal (or_parts (unfit size s u.values u.relations u.constants) _ q).1).long;
         shaped = P.shaped;
         holds = P.holds;
+        stage_is = refl;
         phase_is = tt;
       }))
     where
@@ -153,50 +159,53 @@ module _ (size n : ℕ) (t : Told) (u : Use) (S : Standing size n t u) where
           ∙ ap (λ (N : ℕ). take N u.proposal) S.count_is ∙ P.nums_are
 
   drop_stands : (r : Reply) → r ≡ Ok nothing → Standing size n (tell n t drop_grip r) (freed u (Ok s) u.values).then
-  drop_stands r h = subst (λ (x : Reply). Standing size n (tell n t drop_grip x) (freed u (Ok s) u.values).then) (sym h) freely
+  drop_stands r h = subst (λ (x : Reply). Standing size n (tell n t drop_grip x) (freed u (Ok s) u.values).then) (sym h) (freely no_grip refl)
 
   -- ---- any call, in any phase
-  abbrev After : Call → Reply → Use → Type 0
-  After k r x = Standing size n (tell n t k r) x × LawfulReply size n t k r
+  abbrev Next : Call → Reply → Use → Type 0
+  Next k r x = Standing size n (tell n t k r) x × LawfulReply size n t k r
 
   -- a call that is not open
-  closed-call : (k : Call) → LawfulReply size n t k (Err NotOpen) → (r : Reply) → r ≡ Err NotOpen → After k r u
-  closed-call k L r h = subst (λ (x : Reply). After k x u) (sym h) (S, L)
+  closed-call : (k : Call) → Standing size n (after_refusal t k) u → LawfulReply size n t k (Err NotOpen) → (r : Reply) → r ≡ Err NotOpen → Next k r u
+  closed-call k T L r h = subst (λ (x : Reply). Next k x u) (sym h) (T, L)
 
-  closed-pull : (wishes : List Coords) (r : Reply) → r ≡ Err NotOpen → After (pull wishes) r u
-  closed-pull wishes = closed-call (pull wishes) ((λ d1 d11 d12 d19. absurd (d19 refl)), λ g h. absurd (not_accepted NotOpen g h))
+  closed-pull : no_grip ≡ t.stage → (wishes : List Coords) (r : Reply) → r ≡ Err NotOpen → Next (pull wishes) r u
+  closed-pull none wishes = closed-call (pull wishes)
+      (rephased size n t u S t.proposal (without_proposal t.stage) u.proposal u.working u.phase (S.stage_is ∙ sym none ∙ ap without_proposal none) S.phase_is)
+      ((λ o d1 d11 d12. absurd (false≢true (ap (λ (x : Stage). is_open x (pull wishes)) none ∙ o))), λ g h. absurd (not_accepted NotOpen g h))
 
   -- binding and unbinding give nothing back but a refusal
   rebound-after : (k : Call) → ((x : Reply) → LawfulReply size n t k x) → (b : Bound) → Standing size n (tell n t k (rebound u b).reply) (rebound u b).then
-      → (r : Reply) → Answers (rebound u b).reply r → After k r (rebound u b).then
+      → (r : Reply) → Answers (rebound u b).reply r → Next k r (rebound u b).then
   rebound-after k L b T r h = (subst (λ (x : Reply). Standing size n (tell n t k x) (rebound u b).then) (sym (pinned b.0 h)) T, L r)
     where
       pinned : (a : Result (Unit {0}) Refusal) → Answers (reply_to a) r → r ≡ reply_to a
       pinned (Ok x) h = h
       pinned (Err e) h = h
 
-  pulled_after : (w : Workings) → GrippedWell n t.bound t.roles w → (wishes : List Coords) (r : Reply) → Answers (Rattle.rules.specs.Runs.pulls size u w wishes).reply r
-      → After (pull wishes) r (Rattle.rules.specs.Runs.pulls size u w wishes).then
-  pulled_after w G wishes r h =
+  pulled_after : (w : Workings) → GrippedWell n t.bound t.roles w → with_grip ≡ without_proposal t.stage → (wishes : List Coords) (r : Reply) → Answers (pulls size u w wishes).reply r
+      → Next (pull wishes) r (pulls size u w wishes).then
+  pulled_after w G held wishes r h =
       let P = pulling size s u.values u.relations u.constants w wishes u.proposal u.working in
-      subst (λ (x : Reply). After (pull wishes) x (Rattle.rules.specs.Runs.pulls size u w wishes).then) (sym (told-reply s.count P.1 P.0 r h)) (pull_stands size n t u S w G wishes)
+      subst (λ (x : Reply). Next (pull wishes) x (pulls size u w wishes).then) (sym (told-reply s.count P.1 P.0 r h))
+      (pull_stands size n t u S w G wishes held, pull_lawful size n t u S w G wishes)
 
-  pub next : (p : Phase) → PhaseStands size n t u.proposal p → (k : Call) (r : Reply) → Answers (in_turn size u p k).reply r → After k r (in_turn size u p k).then
-  next free F (bind cs q) r h = rebound-after (bind cs q) (λ x. tt) (binding size s u.values u.relations u.constants cs q) (bind_stands cs q (bind_answer size s u.values u.relations u.constants cs q) refl) r h
-  next free F (unbind i) r h = rebound-after (unbind i) (λ x. tt) (unbinding size s u.values u.relations u.constants i) (unbind_stands i (unbind_answer size s u.values u.relations u.constants i) refl) r h
-  next free F (grip roles) r h = (grip_stands roles (grip_answer size s u.values u.relations u.constants roles (replicate u.places 0)) refl r h, tt)
-  next free F (pull wishes) r h = closed-pull wishes r h
-  next free F keep r h = closed-call keep tt r h
-  next free F drop_grip r h = closed-call drop_grip tt r h
-  next (gripped w) F (bind cs q) r h = closed-call (bind cs q) tt r h
-  next (gripped w) F (unbind i) r h = closed-call (unbind i) tt r h
-  next (gripped w) F (grip roles) r h = closed-call (grip roles) tt r h
-  next (gripped w) F (pull wishes) r h = pulled_after w F wishes r h
-  next (gripped w) F keep r h = closed-call keep tt r h
-  next (gripped w) F drop_grip r h = (drop_stands r h, tt)
-  next (proposing w e) F (bind cs q) r h = closed-call (bind cs q) tt r h
-  next (proposing w e) F (unbind i) r h = closed-call (unbind i) tt r h
-  next (proposing w e) F (grip roles) r h = closed-call (grip roles) tt r h
-  next (proposing w e) F (pull wishes) r h = pulled_after w F.0 wishes r h
-  next (proposing w e) F keep r h = (keep_stands e F.1 w F.0 r h, tt)
-  next (proposing w e) F drop_grip r h = (drop_stands r h, tt)
+  pub next : (p : Phase) → stage_of p ≡ t.stage → PhaseStands size n t u.proposal p → (k : Call) (r : Reply) → Answers (in_turn size u p k).reply r → Next k r (in_turn size u p k).then
+  next free e F (bind cs q) r h = rebound-after (bind cs q) (λ x. tt) (binding size s u.values u.relations u.constants cs q) (bind_stands e cs q (bind_answer size s u.values u.relations u.constants cs q) refl) r h
+  next free e F (unbind i) r h = rebound-after (unbind i) (λ x. tt) (unbinding size s u.values u.relations u.constants i) (unbind_stands e i (unbind_answer size s u.values u.relations u.constants i) refl) r h
+  next free e F (grip roles) r h = (grip_stands roles (grip_answer size s u.values u.relations u.constants roles (replicate u.places 0)) refl r h, tt)
+  next free e F (pull wishes) r h = closed-pull e wishes r h
+  next free e F keep r h = closed-call keep S tt r h
+  next free e F drop_grip r h = closed-call drop_grip S tt r h
+  next (gripped w) e F (bind cs q) r h = closed-call (bind cs q) S tt r h
+  next (gripped w) e F (unbind i) r h = closed-call (unbind i) S tt r h
+  next (gripped w) e F (grip roles) r h = closed-call (grip roles) S tt r h
+  next (gripped w) e F (pull wishes) r h = pulled_after w F (ap without_proposal e) wishes r h
+  next (gripped w) e F keep r h = closed-call keep S tt r h
+  next (gripped w) e F drop_grip r h = (drop_stands r h, tt)
+  next (proposing w d) e F (bind cs q) r h = closed-call (bind cs q) S tt r h
+  next (proposing w d) e F (unbind i) r h = closed-call (unbind i) S tt r h
+  next (proposing w d) e F (grip roles) r h = closed-call (grip roles) S tt r h
+  next (proposing w d) e F (pull wishes) r h = pulled_after w F.0 (ap without_proposal e) wishes r h
+  next (proposing w d) e F keep r h = (keep_stands d F.1 w F.0 r h, tt)
+  next (proposing w d) e F drop_grip r h = (drop_stands r h, tt)
