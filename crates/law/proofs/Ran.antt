@@ -10,7 +10,7 @@ use Rattle.rules.specs.Runs.{Use, Call, Reply, step, Answers, opened}
 use Rattle.law.specs.Histories.{Entry, at_opening}
 use Rattle.law.specs.Law.{Permitted, Made}
 use Rattle.law.specs.Plenty.{LongLists}
-use Rattle.law.specs.Run.{use_after, Ran, shown_from, Run}
+use Rattle.law.specs.Run.{use_after, RanFromOpening, shown_from, Run}
 use Rattle.law.proofs.Runs.{stands_opened, after_run, law}
 use Rattle.law.proofs.Plenty.{fits_always}
 
@@ -69,18 +69,18 @@ shown-after size n u [] m = refl
 shown-after size n u (e ∷ h) m = ap (λ (p : Placing). shown_from n p h) (λ i. record { over = m.0.d i; nums = take n (m.0.values i) }) ∙ shown-after size n (step size u e.call).then h m.1
 
 -- ---- from an opening to the end
+-- every history that the calls make is a run of them
+pub ran_from_opening : RanFromOpening
+ran_from_opening size n values s e relations constants proposal working places calls h q m = record {
+  calls_are = q;
+  lawful = law size n values s e relations constants proposal working places h m;
+  by_rules = m;
+  fits = λ long. fits_always size n values s e relations constants proposal working places long h m;
+}
+
 module _ (size n : ℕ) (values : List Coords) (s : Sheet) (e : (opening size n values).0 ≡ Ok s) (relations : List Relation) (constants proposal working : List Coords) (places : ℕ) where
   abbrev u : Use
   u = opened s (opening size n values).1 relations constants proposal working places
-
-  -- every history that the calls make is a run of them
-  pub ran_from_opening : (calls : List Call) (h : List Entry) → map (λ e. e.call) h ≡ calls → Made size u h → Ran size n u calls h
-  ran_from_opening calls h q m = record {
-    calls_are = q;
-    lawful = law size n values s e relations constants proposal working places h m;
-    by_rules = m;
-    fits = λ long. fits_always size n values s e relations constants proposal working places long h m;
-  }
 
   pub ran : LongLists n u → (calls : List Call) (replies : List Reply) (now : Use) → Running size u calls replies now
       → (now.sheet.count ≡ n) × Run size n u calls replies (values_in n now)
@@ -89,7 +89,7 @@ module _ (size n : ℕ) (values : List Coords) (s : Sheet) (e : (opening size n 
       let h = R.history in
       let F = R.so_far in
       let T = (after_run size n values s e relations constants proposal working places h F.made).stands in
-      let W = ran_from_opening calls h F.calls_are F.made in
+      let W = ran_from_opening size n values s e relations constants proposal working places calls h F.calls_are F.made in
       let start : (at_opening size n).kept ≡ values_in n u = λ i. record { over = sym S.over_is i; nums = sym S.values_are i } in (
         ap (λ (v : Use). v.sheet.count) F.now_is ∙ T.count_is,
         record {

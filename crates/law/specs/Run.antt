@@ -1,7 +1,11 @@
 -- Runs of calls on a sheet.
-use Rattle.std.specs.Prelude.{◌≡◌, ℕ, List, [], ◌∷◌, map}
+use Rattle.std.specs.Prelude.{◌≡◌, ℕ, List, [], ◌∷◌, map, Ok}
+use Rattle.records.specs.declared.relation.Relation.{Relation}
+use Rattle.rules.specs.Values.{Coords}
+use Rattle.rules.specs.Sheets.{Sheet}
 use Rattle.rules.specs.Pulling.{Placing}
-use Rattle.rules.specs.Runs.{Use, Call, Reply, step}
+use Rattle.rules.specs.Calls.{opening}
+use Rattle.rules.specs.Runs.{Use, Call, Reply, step, opened}
 use Rattle.law.specs.Histories.{Entry, at_opening}
 use Rattle.law.specs.Law.{shown, Lawful, Made}
 use Rattle.law.specs.Plenty.{LongLists, LongCalls, NeverUnfit}
@@ -21,6 +25,14 @@ pub record Ran (size n : ℕ) (u : Use) (calls : List Call) (h : List Entry) : T
   pub by_rules : Made size u h
   -- where the lists are long enough no call is refused with 1
   pub fits : LongLists n u → LongCalls n h → NeverUnfit h
+
+-- From an accepted opening every history that these calls make is such a run, whatever the lists hold and
+-- however long they are.
+abbrev pub RanFromOpening : Type 0
+RanFromOpening = (size n : ℕ) (values : List Coords) (s : Sheet) → (opening size n values).0 ≡ Ok s
+    → (relations : List Relation) (constants proposal working : List Coords) (places : ℕ)
+    → let u = opened s (opening size n values).1 relations constants proposal working places in
+    (calls : List Call) (h : List Entry) → map (λ e. e.call) h ≡ calls → Made size u h → Ran size n u calls h
 
 -- The sheet's values after a history, from those before it.
 abbrev pub shown_from : ℕ → Placing → List Entry → Placing

@@ -4,6 +4,7 @@
 ghost use Rattle.law.specs.Law.{LawForRuns};
 ghost use Rattle.law.specs.Facts.{AcceptedGrip, Diagonal, Pivots, PullsRightly, SpareExactly};
 ghost use Rattle.law.specs.Plenty.{FitsAlways, SeriesMade, SmallMade};
+ghost use Rattle.law.specs.Run.{RanFromOpening};
 ghost use Rattle.law.specs.Standing.{AfterCall, AfterOpening};
 
 /// Every history that a series of calls makes, from an accepted opening on, is lawful. The sheet's values are
@@ -11,7 +12,8 @@ ghost use Rattle.law.specs.Standing.{AfterCall, AfterOpening};
 /// An open pull is refused as impossible exactly when no placing meets all, and where it is not, such a placing
 /// is given. An accepted pull proposes the one nearest to the wishes.
 pub fn law_for_runs_stands()
-    ensures { LawForRuns }
+    ensures law { LawForRuns }
+    ensures ran { RanFromOpening }
 {}
 
 /// The same call by call, as one fact on the sheet in use after a history: every entry is lawful, and what
