@@ -1,27 +1,23 @@
 -- A call comes back with 19 exactly when it is not open.
-use Rattle.std.proofs.Common.{◌≡◌, ℕ, Bool, true, false, ◌≤◌, ◌||◌, ◌≢◌, ◌↔◌, List, replicate, ℤ, Err, Result, refl, ap, ◌∙◌, subst, arith, Ok}
-use mathlib.Core.Bool.{false≢true, true≢false}
+use Rattle.std.proofs.Common.{◌≡◌, ℕ, true, false, ◌≤◌, ◌||◌, ◌≢◌, ◌↔◌, List, replicate, ℤ, Err, Result, refl, ap, arith, Ok}
+use mathlib.Core.Bool.{true≢false}
 use Rattle.std.proofs.lemmas.Bool.{cond_both}
 use Rattle.records.specs.Numbers.{number_of}
 use Rattle.records.specs.declared.refusal.Refusal.{Refusal}
 use Rattle.records.specs.declared.refusal.Refusal.TheVariants.{Unfit, NotOpen}
-use Rattle.records.specs.declared.relation.Relation.{Relation}
 use Rattle.rules.specs.Values.{Coords}
 use Rattle.rules.specs.Sheets.{Sheet, Workings, bonds, unfit, unfit_values}
 use Rattle.rules.specs.Gripping.{counted}
 use Rattle.rules.specs.Pulling.{Placing, proposed}
-use Rattle.rules.specs.Calls.{bind_answer, bind_by, unbind_answer, unbind_by, grip_answer, Pulled, pull_by, unfit_pull, pulling, keeping}
-use Rattle.rules.specs.Runs.{Phase, free, gripped, proposing, Use, Call, bind, unbind, grip, pull, keep, drop_grip, nothing, spares, placing, Reply, Answers, reply_to, held_by, told, freed, in_turn}
+use Rattle.rules.specs.Calls.{bind_answer, bind_by, unbind_answer, unbind_by, grip_answer, Pulled, pull_by, unfit_pull}
+use Rattle.rules.specs.Runs.{Phase, free, gripped, proposing, Use, Call, bind, unbind, grip, pull, keep, drop_grip, nothing, Reply, Answers, reply_to, held_by, told, freed, in_turn}
 use Rattle.law.specs.Histories.{is_open}
 use Rattle.law.specs.Standing.{stage_of}
-use Rattle.law.proofs.Refusals.{fine, same_refusal, defined_too, Beside, bind_refusals, unbind_refusals, grip_refusals, pull_refusals}
+use Rattle.law.proofs.Refusals.{fine, same_refusal, defined_too, bind_refusals, unbind_refusals, grip_refusals, pull_refusals}
 
 -- ---- no open call gives 19
 other_number : Unfit ≢ NotOpen
 other_number e = let q = ap number_of e in omega arith
-
-beside : (low high : ℕ) → high ≤ 18 → Beside low high NotOpen
-beside low high l x a b q = omega arith
 
 module _ (size : ℕ) (u : Use) where
   abbrev s : Sheet
@@ -50,7 +46,7 @@ module _ (size : ℕ) (u : Use) where
   pulls_opened w wishes = cond_both (unfit_pull size s u.values u.relations u.constants w wishes u.proposal u.working) _ _ (λ (P : Pulled). Opened (told s.count P.1 P.0))
       (λ e h. other_number (same h))
       (λ e. pull_opened s.count (proposed size s.count w.roles w.shares (counted s.count w.roles (bonds s u.relations u.constants)) w.table s.d u.values wishes)
-      (pull_refusals NotOpen size s.count w.roles w.shares (counted s.count w.roles (bonds s u.relations u.constants)) w.table s.d u.values wishes (beside 11 15 (omega arith))))
+      (pull_refusals NotOpen size s.count w.roles w.shares (counted s.count w.roles (bonds s u.relations u.constants)) w.table s.d u.values wishes (λ x a b q. omega arith)))
     where
       same : ◌≡◌ {A = Reply} (Err Unfit) (Err NotOpen) → Unfit ≡ NotOpen
       same h = cc
@@ -76,11 +72,11 @@ module _ (size : ℕ) (u : Use) where
 
   pub open_rightly : (p : Phase) (k : Call) (r : Reply) → Answers (in_turn size u p k).reply r → Rightly p k r
   open_rightly free (bind cs q) r h = opened _ r h (bind_opened cs q (bind_answer size s u.values u.relations u.constants cs q)
-      (λ e. other_number (bind_refusals NotOpen size s u.values u.relations u.constants (beside 3 6 (omega arith)) cs q e).1))
+      (λ e. other_number (bind_refusals NotOpen size s u.values u.relations u.constants (λ x a b q. omega arith) cs q e).1))
   open_rightly free (unbind i) r h = opened _ r h (unbind_opened _ (unbind_answer size s u.values u.relations u.constants i)
-      (λ e. other_number (unbind_refusals NotOpen size s u.values u.relations u.constants (beside 7 7 (omega arith)) i e).1))
+      (λ e. other_number (unbind_refusals NotOpen size s u.values u.relations u.constants (λ x a b q. omega arith) i e).1))
   open_rightly free (grip roles) r h = opened _ r h (grip_opened (grip_answer size s u.values u.relations u.constants roles (replicate u.places 0))
-      (λ e. other_number (grip_refusals NotOpen size s u.values u.relations u.constants (beside 8 10 (omega arith)) roles (replicate u.places 0) e).1))
+      (λ e. other_number (grip_refusals NotOpen size s u.values u.relations u.constants (λ x a b q. omega arith) roles (replicate u.places 0) e).1))
   open_rightly free (pull wishes) r h = closed r h
   open_rightly free keep r h = closed r h
   open_rightly free drop_grip r h = closed r h

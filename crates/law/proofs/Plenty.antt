@@ -1,27 +1,26 @@
 -- Where the lists are long enough no call gives 1: they fit at the opening, and each call keeps them so.
-use Rattle.std.proofs.Common.{◌≡◌, ℕ, zero, suc, ◌+◌, ◌-◌, ◌*◌, ◌<◌, ◌≤◌, Bool, false, not, ◌||◌, eqb, ltb, leb, ◌≢◌, List, [], ◌∷◌, length, get_or, take, set, replicate, ℤ, pos, nat_abs, ◌<ℤ◌, Ok, Err, Result, sym, refl, ap, ◌∙◌, subst, ap₂, ⊎_elim, not-suc-le-zero, arith}
+use Rattle.std.proofs.Common.{◌≡◌, ℕ, ◌+◌, ◌-◌, ◌*◌, ◌<◌, ◌≤◌, Bool, false, not, ◌||◌, eqb, ltb, ◌≢◌, List, [], ◌∷◌, length, get_or, take, set, replicate, ℤ, pos, nat_abs, ◌<ℤ◌, Ok, Err, Result, sym, refl, ap, ◌∙◌, subst, ap₂, ⊎_elim, not-suc-le-zero, arith}
 use mathlib.Core.Bool.{true≢false}
 use lib.Signed.{lt_z}
 use borrow.Author.Differences.{ints}
 use Rattle.std.proofs.lemmas.List.{length-set, length-replicate, get_or-set_same, get_or-set_other}
 use Rattle.std.proofs.lemmas.Bool.{cond-false, false_from_ne_true, or_parts, or_from, not_from_true, le-ltb, eq-eqb, cases_lt}
-use Rattle.whole.specs.Lists.{tab, at}
-use Rattle.whole.specs.Tests.{any, above, nonzero}
+use Rattle.whole.specs.Lists.{tab}
+use Rattle.whole.specs.Tests.{above}
 use Rattle.whole.proofs.Lists.{tab-length}
 use Rattle.whole.proofs.Tests.{any_false, none_any, any_ext}
-use Rattle.linear.specs.Elimination.{Grid, step, beyond, within_limit, eliminated, start}
 use Rattle.records.specs.declared.refusal.Refusal.{Refusal}
-use Rattle.records.specs.declared.refusal.Refusal.TheVariants.{Unfit, Full, Coefficients, Constant, Untrue, NoRelation, Roles, Crowded, TableTooLarge, WishTooFar, GapTooLarge, Impossible, NotOpen}
+use Rattle.records.specs.declared.refusal.Refusal.TheVariants.{Unfit, NotOpen}
 use Rattle.records.specs.declared.relation.Relation.{Relation}
 use Rattle.records.specs.declared.role.Role.{Role}
-use Rattle.rules.specs.Limits.{most_parameters, most_relations, most_counted, most_residual, working_places}
+use Rattle.rules.specs.Limits.{most_parameters, most_relations, most_counted, working_places}
 use Rattle.rules.specs.Values.{Coords, zeros, written}
 use Rattle.rules.specs.Sheets.{Sheet, Bond, bond, bonds, relation_at, Workings, bad_denominator, bad_values, bad_coefs, bad_constant, bad_relation, unfit_values, unfit_relations, unfit}
-use Rattle.rules.specs.Gripping.{role, counted, coef, share, shares, bad_roles, table, marked, with_mark, mark_of}
-use Rattle.rules.specs.Pulling.{Placing, far_wish, residuals, carried, some_above, contradicts}
+use Rattle.rules.specs.Gripping.{counted, shares, marked, with_mark, mark_of}
+use Rattle.rules.specs.Pulling.{Placing}
 use Rattle.rules.specs.Calls as Calls
-use Rattle.rules.specs.Calls.{opening, untrue, recorded, closed, bind_answer, bind_by, unbind_answer, unbind_by, grip_answer, unfit_pull}
-use Rattle.rules.specs.Runs.{Phase, free, gripped, proposing, Use, Call, bind, unbind, grip, pull, keep, drop_grip, nothing, spares, placing, Reply, Answers, rebound, held_by, pulled_to, freed, in_turn, opened}
+use Rattle.rules.specs.Calls.{opening, recorded, closed, bind_answer, bind_by, unbind_answer, unbind_by, grip_answer, unfit_pull}
+use Rattle.rules.specs.Runs.{Phase, free, gripped, proposing, Use, Call, bind, unbind, grip, pull, keep, drop_grip, nothing, spares, placing, rebound, held_by, pulled_to, freed, in_turn, opened}
 use Rattle.rules.specs.Runs as Runs
 use Rattle.rules.proofs.Accepted.{on_opened, bindable, unbindable}
 use Rattle.rules.proofs.Bonds.{zeros-length, none, get_or-written, length-written, closed_below, closed-above, closed-length, marked-at, bonds-marked}
@@ -33,12 +32,8 @@ use Rattle.law.specs.Plenty.{LongLists, LongCall, LongCalls, NeverUnfit, FitsAlw
 use Rattle.law.proofs.Divided.{coord-grid}
 use Rattle.law.proofs.Facts.{accepted-grip}
 use Rattle.law.proofs.Pulls.{answer, is_accepted, outcome, pulled_is}
-use Rattle.law.proofs.Refusals.{fine, same_refusal, defined_too, Beside, bind_refusals, unbind_refusals, grip_refusals, pull_refusals}
+use Rattle.law.proofs.Refusals.{fine, same_refusal, defined_too, bind_refusals, unbind_refusals, grip_refusals, pull_refusals}
 use Rattle.law.proofs.Runs.{stands_opened, stands_on}
-
--- 1 is no other refusal
-beside : (low high : ℕ) → 2 ≤ low → Beside low high Unfit
-beside low high l x a b q = omega arith
 
 -- ---- what fits
 abbrev GripFits : Use → Workings → Type 0
@@ -103,7 +98,7 @@ module _ (size n : ℕ) (t : Told) (u : Use) (S : Standing size n t u) (F : Fitt
   bind_fine : (cs : List ℤ) (q : Coords) → n ≤ length cs → (a : Result (Unit {0}) Refusal) → bind_answer size s u.values rs qs cs q ≡ a → Fine (rebound u (bind_by a s rs qs cs q))
   bind_fine cs q long (Err k) e = (
     freely,
-    λ z. true≢false (sym (bind_refusals Unfit size s u.values rs qs (beside 3 6 (omega arith)) cs q (e ∙ same_refusal k Unfit z)).0 ∙ test),
+    λ z. true≢false (sym (bind_refusals Unfit size s u.values rs qs (λ x a b q. omega arith) cs q (e ∙ same_refusal k Unfit z)).0 ∙ test),
   )
     where
       test : (ltb (length cs) s.count || unfit size s u.values rs qs) ≡ false
@@ -147,7 +142,7 @@ module _ (size n : ℕ) (t : Told) (u : Use) (S : Standing size n t u) (F : Fitt
   unbind_fine : (i : ℤ) (a : Result (Unit {0}) Refusal) → unbind_answer size s u.values rs qs i ≡ a → Fine (rebound u (unbind_by a s rs qs (nat_abs i)))
   unbind_fine i (Err k) e = (
     freely,
-    λ z. true≢false (sym (unbind_refusals Unfit size s u.values rs qs (beside 7 7 (omega arith)) i (e ∙ same_refusal k Unfit z)).0 ∙ F.fits),
+    λ z. true≢false (sym (unbind_refusals Unfit size s u.values rs qs (λ x a b q. omega arith) i (e ∙ same_refusal k Unfit z)).0 ∙ F.fits),
   )
   unbind_fine i (Ok x) e =
       let k = nat_abs i in
@@ -183,7 +178,7 @@ module _ (size n : ℕ) (t : Told) (u : Use) (S : Standing size n t u) (F : Fitt
   grip_fine : (roles : List Role) → n ≤ length roles → (a : Result Workings Refusal) → grip_answer size s u.values rs qs roles slots ≡ a → Fine (held_by u a)
   grip_fine roles long (Err k) e = (
     F,
-    λ z. true≢false (sym (grip_refusals Unfit size s u.values rs qs (beside 8 10 (omega arith)) roles slots (e ∙ same_refusal k Unfit z)).0 ∙ grip_test roles long),
+    λ z. true≢false (sym (grip_refusals Unfit size s u.values rs qs (λ x a b q. omega arith) roles slots (e ∙ same_refusal k Unfit z)).0 ∙ grip_test roles long),
   )
   grip_fine roles long (Ok w) e = (
     record {
@@ -221,7 +216,7 @@ module _ (size n : ℕ) (t : Told) (u : Use) (S : Standing size n t u) (F : Fitt
         (not_from_true _ (eq-eqb _ _ W.0))) (not_from_true _ (eq-eqb _ _ W.1))
 
     never : answer size n t u S w G wishes ≢ Err Unfit
-    never = pull_refusals Unfit size n t.roles (shares n t.roles) (counted n t.roles t.bound) w.table s.d u.values wishes (beside 11 15 (omega arith))
+    never = pull_refusals Unfit size n t.roles (shares n t.roles) (counted n t.roles t.bound) w.table s.d u.values wishes (λ x a b q. omega arith)
 
     blank : working_places ≤ length (written working_places (zeros working_places size) u.working)
     blank = let z = zeros-length working_places size in subst (λ (k : ℕ). working_places ≤ k) (sym (length-written working_places (zeros working_places size) u.working (omega arith) F.lists.working)) F.lists.working

@@ -11,7 +11,7 @@ use Rattle.rules.specs.Limits.{most_relations}
 use Rattle.rules.specs.Values.{Coords}
 use Rattle.rules.specs.Sheets.{Sheet, bonds, Workings, unfit_values, unfit}
 use Rattle.rules.specs.Calls as Calls
-use Rattle.rules.specs.Calls.{grip_on, pull_by, unfit_pull, pulling}
+use Rattle.rules.specs.Calls.{grip_on, unfit_pull, pulling}
 use Rattle.rules.specs.Runs.{Use, gripped, told}
 use Rattle.rules.proofs.Accepted.{pullable}
 use Rattle.rules.proofs.Fit.{fit_values}

@@ -9,7 +9,7 @@ use Rattle.rules.specs.Calls.{opening}
 use Rattle.rules.specs.Runs.{Use, step, opened}
 use Rattle.rules.proofs.Accepted.{on_opened}
 use Rattle.rules.proofs.Bonds.{take-written_all, zeros-length}
-use Rattle.law.specs.Histories.{Entry, Stage, Told, at_opening, tell, told_from, told, is_open}
+use Rattle.law.specs.Histories.{Entry, Stage, Told, at_opening, tell, told_from, told}
 use Rattle.law.specs.Placings.{Shaped, AllHold}
 use Rattle.law.specs.Law.{shown, KeptAndHeld, OpenRightly, LawfulEntry, LawfulFrom, Permitted, Made, LawForRuns}
 use Rattle.law.specs.Standing.{Standing, After, AfterOpening, AfterCall}

@@ -1,4 +1,4 @@
--- Every series of calls makes a history, and a small one with an accepted pull and a keep.
+-- Every series of calls makes a history, and a small one with an accepted pull, a keep and a call that is not open.
 use Rattle.std.proofs.Common.{List, [], ◌∷◌, pos, Ok, Err, refl, ap}
 use Rattle.std.proofs.lemmas.List.Sorted.{IsPermutation-refl}
 use Rattle.whole.specs.Sums.{sum_below}
@@ -25,7 +25,7 @@ series_made size u (k ∷ ks) =
 
 small-history : Made 1 small_use small
 unfolding sum_below
-small-history = (record { reply = refl; values = refl; d = refl }, (record { reply = ([], refl, IsPermutation-refl []); values = refl; d = refl }, (record { reply = refl; values = refl; d = refl }, (record { reply = refl; values = refl; d = refl }, tt))))
+small-history = (record { reply = refl; values = refl; d = refl }, (record { reply = ([], refl, IsPermutation-refl []); values = refl; d = refl }, (record { reply = refl; values = refl; d = refl }, (record { reply = refl; values = refl; d = refl }, (record { reply = refl; values = refl; d = refl }, tt)))))
 
 pub small_made : SmallMade
 small_made = (refl, small-history, law 1 3 (zeros 3 1) (record { count = 3; bound = 0; d = pos 1 }) refl unbound (zeros most_relations 1) (zeros 3 1) (zeros working_places 1) most_counted small small-history)

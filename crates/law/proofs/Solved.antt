@@ -15,7 +15,6 @@ use Rattle.linear.proofs.Outcomes.{passed, not_by}
 use Rattle.linear.proofs.Solving.{infeasible, placed-meets}
 use Rattle.linear.proofs.Nearest.{nearest}
 use Rattle.linear.proofs.Lowest as Reduced
-use Rattle.records.specs.Numbers.{number_of}
 use Rattle.records.specs.Outcomes.{guard}
 use Rattle.records.specs.declared.refusal.Refusal.{Refusal}
 use Rattle.records.specs.declared.refusal.Refusal.TheVariants.{WishTooFar, GapTooLarge, Impossible, TooFine, OffSheet}

@@ -72,7 +72,13 @@ abbrev pub values_of : Sheet → List Coords → Placing
 values_of s vs = record { over = s.d; nums = take s.count vs }
 
 abbrev pub told_by : Sheet → List Coords → List Relation → List Coords → List Role → Told
-told_by s vs rs qs roles = record { bound = bonds s rs qs; kept = values_of s vs; proposal = values_of s vs; roles = roles; stage = with_grip }
+told_by s vs rs qs roles = record {
+  bound = bonds s rs qs;
+  kept = values_of s vs;
+  proposal = values_of s vs;
+  roles = roles;
+  stage = with_grip;
+}
 
 -- A pull with the workings of a grip on this sheet, whose bound relations hold for its values. Unless it is
 -- refused with 1, 11 or 12 it is refused with 13 exactly when no placing meets the bound relations, the held

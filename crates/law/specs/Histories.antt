@@ -29,13 +29,20 @@ pub record Told : Type 0 where
   pub roles : List Role
   pub stage : Stage
 
--- Zero values, over 1.
+-- All values zero, over 1.
 abbrev pub zero_placing : ℕ → ℕ → Placing
 zero_placing size n = record { over = pos 1; nums = zeros n size }
 
--- At the opening nothing is bound, the kept values are zero, and there is no grip.
+-- At the opening nothing is bound, the kept values are zero, and there is no grip. Neither proposal nor
+-- roles are read before an accepted pull and grip.
 abbrev pub at_opening : ℕ → ℕ → Told
-at_opening size n = record { bound = []; kept = zero_placing size n; proposal = zero_placing size n; roles = []; stage = no_grip }
+at_opening size n = record {
+  bound = [];
+  kept = zero_placing size n;
+  proposal = zero_placing size n;
+  roles = [];
+  stage = no_grip;
+}
 
 -- An accepted pull's proposal.
 abbrev pub proposal_in : Given → Placing → Placing

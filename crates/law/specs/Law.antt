@@ -47,12 +47,12 @@ ProposesNearest size n t wishes r = (g : Given) → r ≡ Ok g → (p : Placing)
     × ((inner : Coords → Coords → ℤ) → InnerProduct size inner → (z : Placing) → MeetsAll size n t wishes z → ¬ (Same size n p z)
     → Nearer size inner n t.roles wishes p z)
 
--- What the law says of a pull's reply, by what was told before the call; of other calls' replies it says nothing more.
+-- What the law says of a pull's reply, by what was told before the call. The law names no other reply.
 abbrev pub LawfulReply : ℕ → ℕ → Told → Call → Reply → Type 0
 LawfulReply size n t (pull wishes) r = RefusedRightly size n t wishes r × ProposesNearest size n t wishes r
 LawfulReply size n t k r = Unit {0}
 
--- An entry is lawful by what was told before it; its values by what is told with it.
+-- An entry by what was told before it. Its values are those that are told with it.
 pub record LawfulEntry (size n : ℕ) (t : Told) (e : Entry) : Type 0 where
   pub kept_and_held : KeptAndHeld size n (tell n t e.call e.reply) e
   pub open_rightly : OpenRightly t e.call e.reply
@@ -68,13 +68,15 @@ abbrev pub Lawful : ℕ → ℕ → List Entry → Type 0
 Lawful size n h = LawfulFrom size n (at_opening size n) h
 
 -- ---- the theorem
--- An entry that the rules permit on a sheet in use: the reply is the defined one, but for the order of spare numbers.
+-- An entry that the rules permit on a sheet in use: the reply is the defined one, but for the order of
+-- spare numbers, and so are the values after it.
 pub record Permitted (size : ℕ) (u : Use) (e : Entry) : Type 0 where
   pub reply : Answers (step size u e.call).reply e.reply
   pub values : e.values ≡ (step size u e.call).then.values
   pub d : e.d ≡ (step size u e.call).then.sheet.d
 
--- A history that a series of calls makes: any calls in any order, refused ones and those that the phase does not permit included.
+-- A history that a series of calls makes: any calls in any order, refused ones and those that are not
+-- open included.
 abbrev pub Made : ℕ → Use → List Entry → Type 0
 Made size u [] = Unit {0}
 Made size u (e ∷ h) = Permitted size u e × Made size (step size u e.call).then h

@@ -1,6 +1,6 @@
 -- The law is not empty: every series of calls makes a history, and where the lists are long enough no call gives 1.
 use Rattle.std.specs.Prelude.{◌≡◌, ℕ, ◌≤◌, ◌≢◌, List, [], ◌∷◌, map, length, pos, Ok, Err}
-use Rattle.records.specs.declared.refusal.Refusal.TheVariants.{Unfit}
+use Rattle.records.specs.declared.refusal.Refusal.TheVariants.{Unfit, NotOpen}
 use Rattle.records.specs.declared.relation.Relation.{Relation}
 use Rattle.records.specs.declared.role.Role.TheVariants.{Pulled}
 use Rattle.rules.specs.Limits.{most_relations, most_counted, working_places}
@@ -56,7 +56,7 @@ FitsAlways = (size n : ℕ) (values : List Coords) (s : Sheet) → (opening size
     LongLists n u → (h : List Entry) → Made size u h → LongCalls n h → NeverUnfit h
 
 -- ---- a small series
--- Three lengths with a - 2b + c = 0: gripped, pulled to 5, 2, -1 over 5, and kept.
+-- Three lengths with a - 2b + c = 0: gripped, pulled to 5, 2, -1 over 5, and kept. A pull after that is not open.
 abbrev pub small_use : Use
 small_use = opened (record { count = 3; bound = 0; d = pos 1 }) (zeros 3 1) unbound (zeros most_relations 1) (zeros 3 1) (zeros working_places 1) most_counted
 
@@ -69,8 +69,9 @@ small =
     ∷ record { call = grip (Pulled ∷ weight 1 ∷ weight 1 ∷ []); reply = Ok (spares []); values = zeros 3 1; d = pos 1 }
     ∷ record { call = pull (lengths (pos 1 ∷ pos 0 ∷ pos 0 ∷ [])); reply = Ok (placing (record { over = pos 5; nums = fifths })); values = zeros 3 1; d = pos 1 }
     ∷ record { call = keep; reply = Ok nothing; values = fifths; d = pos 5 }
+    ∷ record { call = pull (lengths (pos 2 ∷ pos 0 ∷ pos 0 ∷ [])); reply = Err NotOpen; values = fifths; d = pos 5 }
     ∷ []
 
--- It is a history from an accepted opening, so that the law speaks of its pull and its keep.
+-- It is a history from an accepted opening, so that the law speaks of its pulls and its keep.
 abbrev pub SmallMade : Type 0
 SmallMade = (opening 1 3 (zeros 3 1) ≡ (Ok (record { count = 3; bound = 0; d = pos 1 }), zeros 3 1)) × Made 1 small_use small × Lawful 1 3 small

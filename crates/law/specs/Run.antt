@@ -39,7 +39,8 @@ abbrev pub shown_from : ℕ → Placing → List Entry → Placing
 shown_from n p [] = p
 shown_from n p (e ∷ h) = shown_from n (shown n e) h
 
--- From the opening of a sheet of n parameters these calls were made in their order; this is what each gave back, and these are the sheet's values at the end.
+-- From the opening of a sheet of n parameters these calls were made in their order. This is what each gave
+-- back, and these are the sheet's values at the end.
 pub record Run (size n : ℕ) (u : Use) (calls : List Call) (replies : List Reply) (end : Placing) : Type 0 where
   pub history : List Entry
   pub calls_are : map (λ e. e.call) history ≡ calls

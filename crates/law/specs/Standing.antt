@@ -15,7 +15,8 @@ use Rattle.law.specs.Placings.{Shaped, AllHold}
 use Rattle.law.specs.Histories.{Entry, Stage, no_grip, with_grip, with_proposal, Told, told}
 use Rattle.law.specs.Law.{Lawful, Permitted}
 
--- The workings are those of the bound relations by the told roles, and their table means what a finished elimination means.
+-- The workings are those of the bound relations by the told roles, and their table means what a finished
+-- elimination means.
 pub record GrippedWell (n : ℕ) (bs : List Bond) (roles : List Role) (w : Workings) : Type 0 where
   pub roles_are : w.roles ≡ roles
   pub weights : (s : ℕ) → s < n → bad_weight (role roles s) ≡ false

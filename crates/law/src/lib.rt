@@ -23,7 +23,8 @@ pub fn each_call_is_lawful()
     ensures call { AfterCall }
 {}
 
-/// The law is not empty: every series of calls makes a history, and a small one has an accepted pull and a keep.
+/// The law is not empty: every series of calls makes a history, and a small one has an accepted pull, a keep
+/// and a call that is not open.
 pub fn histories_are_made()
     ensures series { SeriesMade }
     ensures small { SmallMade }
