@@ -1,5 +1,5 @@
 -- A call comes back with 19 exactly when it is not open.
-use Rattle.std.proofs.Common.{◌≡◌, ℕ, true, false, ◌≤◌, ◌||◌, ◌≢◌, ◌↔◌, List, replicate, ℤ, Err, Result, refl, ap, arith, Ok}
+use Rattle.std.proofs.Common.{◌≡◌, ℕ, true, false, ◌||◌, ◌≢◌, ◌↔◌, List, replicate, ℤ, Err, Result, refl, ap, arith, Ok}
 use mathlib.Core.Bool.{true≢false}
 use Rattle.std.proofs.lemmas.Bool.{cond_both}
 use Rattle.records.specs.Numbers.{number_of}

@@ -84,13 +84,21 @@ pub law : LawForRuns
 law size n values s e rs qs proposal working places h m = (after_run size n values s e rs qs proposal working places h m).lawful
 
 -- ---- one entry more
-told_more : (n : ℕ) (t : Told) (h : List Entry) (e : Entry) → told_from n t (h ++ (e ∷ [])) ≡ tell n (told_from n t h) e.call e.reply
+pub told_more : (n : ℕ) (t : Told) (h : List Entry) (e : Entry) → told_from n t (h ++ (e ∷ [])) ≡ tell n (told_from n t h) e.call e.reply
 told_more n t [] e = refl
 told_more n t (x ∷ h) e = told_more n (tell n t x.call x.reply) h e
 
 lawful_more : (size n : ℕ) (t : Told) (h : List Entry) (e : Entry) → LawfulFrom size n t h → LawfulEntry size n (told_from n t h) e → LawfulFrom size n t (h ++ (e ∷ []))
 lawful_more size n t [] e L new = (new, tt)
 lawful_more size n t (x ∷ h) e L new = (L.0, lawful_more size n (tell n t x.call x.reply) h e L.1 new)
+
+-- and the last entry's law is read off a lawful history
+lawful_last : (size n : ℕ) (t : Told) (h : List Entry) (e : Entry) → LawfulFrom size n t (h ++ (e ∷ [])) → LawfulEntry size n (told_from n t h) e
+lawful_last size n t [] e L = L.0
+lawful_last size n t (x ∷ h) e L = lawful_last size n (tell n t x.call x.reply) h e L.1
+
+pub entry_lawful : (size n : ℕ) (h : List Entry) (e : Entry) (u : Use) → After size n (h ++ (e ∷ [])) u → LawfulEntry size n (told size n h) e
+entry_lawful size n h e u A = lawful_last size n (at_opening size n) h e A.lawful
 
 pub after_opening : AfterOpening
 after_opening size n values s e relations constants proposal working places = after_run size n values s e relations constants proposal working places [] tt
