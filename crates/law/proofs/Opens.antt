@@ -10,7 +10,7 @@ use Rattle.rules.specs.Sheets.{Sheet, Workings, bonds, unfit, unfit_values}
 use Rattle.rules.specs.Gripping.{counted}
 use Rattle.rules.specs.Pulling.{Placing, proposed}
 use Rattle.rules.specs.Calls.{bind_answer, bind_by, unbind_answer, unbind_by, grip_answer, Pulled, pull_by, unfit_pull}
-use Rattle.rules.specs.Runs.{Phase, free, gripped, proposing, Use, Call, bind, unbind, grip, pull, keep, drop_grip, nothing, Reply, Answers, reply_to, held_by, told, freed, in_turn}
+use Rattle.rules.specs.Runs.{Phase, free, gripped, proposing, Use, Call, bind, unbind, grip, pull, keep, drop_grip, nothing, Reply, Answers, reply_to, held_by, told, freed, pulls, keeps, in_turn}
 use Rattle.law.specs.Histories.{is_open}
 use Rattle.law.specs.Standing.{stage_of}
 use Rattle.law.proofs.Refusals.{fine, same_refusal, defined_too, bind_refusals, unbind_refusals, grip_refusals, pull_refusals}
@@ -25,6 +25,9 @@ module _ (size : ℕ) (u : Use) where
 
   abbrev Opened : Reply → Type 0
   Opened r = r ≢ Err NotOpen
+
+  unfit_opened : Opened (Err Unfit)
+  unfit_opened h = let e : Unfit ≡ NotOpen = cc in other_number e
 
   bind_opened : (cs : List ℤ) (q : Coords) (a : Result (Unit {0}) Refusal) → a ≢ Err NotOpen → Opened (reply_to (bind_by a s u.relations u.constants cs q).0)
   bind_opened cs q (Ok x) d h = fine nothing h
@@ -42,23 +45,17 @@ module _ (size : ℕ) (u : Use) where
   pull_opened n (Ok p) d h = fine _ h
   pull_opened n (Err e) d h = d (same_refusal e NotOpen h)
 
-  pulls_opened : (w : Workings) (wishes : List Coords) → Opened (Rattle.rules.specs.Runs.pulls size u w wishes).reply
+  pulls_opened : (w : Workings) (wishes : List Coords) → Opened (pulls size u w wishes).reply
   pulls_opened w wishes = cond_both (unfit_pull size s u.values u.relations u.constants w wishes u.proposal u.working) _ _ (λ (P : Pulled). Opened (told s.count P.1 P.0))
-      (λ e h. other_number (same h))
+      (λ e. unfit_opened)
       (λ e. pull_opened s.count (proposed size s.count w.roles w.shares (counted s.count w.roles (bonds s u.relations u.constants)) w.table s.d u.values wishes)
       (pull_refusals NotOpen size s.count w.roles w.shares (counted s.count w.roles (bonds s u.relations u.constants)) w.table s.d u.values wishes (λ x a b q. omega arith)))
-    where
-      same : ◌≡◌ {A = Reply} (Err Unfit) (Err NotOpen) → Unfit ≡ NotOpen
-      same h = cc
 
-  keeps_opened : (e : ℤ) → Opened (Rattle.rules.specs.Runs.keeps size u e).reply
+  keeps_opened : (e : ℤ) → Opened (keeps size u e).reply
   keeps_opened e = cond_both (unfit size s u.values u.relations u.constants || unfit_values size s.count e u.proposal) _ _
       (λ (k : Result Sheet Refusal × List Coords). Opened (freed u k.0 k.1).reply)
-      (λ q h. other_number (same h))
-      (λ q h. fine nothing h)
-    where
-      same : ◌≡◌ {A = Reply} (Err Unfit) (Err NotOpen) → Unfit ≡ NotOpen
-      same h = cc
+      (λ q. unfit_opened)
+      (λ q. fine nothing)
 
   -- ---- any call, in any phase
   abbrev Rightly : Phase → Call → Reply → Type 0
