@@ -30,6 +30,8 @@ part == "card" {
 }
 part == "answers" {
     line = FNR + 1
+    if (lines == 0)
+        text[1] = ""
     if ($1 == "no") {
         no[line] = $2
         refused(text[line])
