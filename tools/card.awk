@@ -173,13 +173,13 @@ function millimetres(n, d,    twice, t) {
     return (n < 0 && t > 0 ? "-" : "") sprintf("%d.%03d", int(t / 1000), t % 1000)
 }
 
-# A text with its odd bytes made visible, cut after about 100 characters.
-function visible(said,    i, c, shown) {
-    if (said !~ /[^ -~]/ && length(said) <= 100)
+# A text with its odd bytes made visible, cut where it has more than about `most` characters.
+function visible(said, most,    i, c, shown) {
+    if (said !~ /[^ -~]/ && length(said) <= most)
         return said
     for (i = 1; i <= length(said); i++) {
-        if (length(shown) > 96)
-            return shown " [..]"
+        if (length(shown) > most - 4)
+            return shown "[..]"
         c = substr(said, i, 1)
         shown = shown (c ~ /[ -~]/ ? c : odd(c))
     }

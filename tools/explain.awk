@@ -28,13 +28,13 @@ part == "answers" && /^no / {
     }
     no[line] = $2
     if (brief == "yes")
-        print "line " line ": no " number ", " titles[number] ": " visible(text[line])
+        print "line " line ": no " number ", " titles[number] ": " visible(text[line], 100)
     else
         explain()
 }
 
 function explain(    item, which, said) {
-    print "line " line ": " visible(text[line])
+    print "line " line ": " visible(text[line], 100)
     print "    no " $2 ": " titles[number]
     which = which_value(line)
     for (item = 1; item <= items[number]; item++) {

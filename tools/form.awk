@@ -27,7 +27,7 @@ function fault(sentence) {
 }
 
 function word_fault(number, w, of, what) {
-    fault("Word " number ", `" visible(w) "`" (of == "" ? "" : " (" of ")") ", " what ".")
+    fault("Word " number ", `" visible(w, 24) "`" (of == "" ? "" : " (" of ")") ", " what ".")
 }
 
 # Notes what is wrong with line n as a line, and gives its words with one space between them.
@@ -56,7 +56,7 @@ function bare(n,    t, word, words, i) {
     for (i = 1; i < words; i++) {
         t = substr(t, length(word[i]) + 1)
         if (t ~ /^  /)
-            fault("Two spaces stand after word " i ", `" visible(word[i]) "`.")
+            fault("Two spaces stand after word " i ", `" visible(word[i], 24) "`.")
         sub(/^[ \t]+/, "", t)
     }
     t = ""
@@ -251,9 +251,9 @@ function point_fault(w,    part, parts, what) {
         return "is not two numbers joined by a comma"
     what = steps_fault(part[1])
     if (what != "")
-        return "is wrong in x: `" visible(part[1]) "` " what
+        return "is wrong in x: `" visible(part[1], 24) "` " what
     what = steps_fault(part[2])
-    return what == "" ? "" : "is wrong in y: `" visible(part[2]) "` " what
+    return what == "" ? "" : "is wrong in y: `" visible(part[2], 24) "` " what
 }
 
 function coefficient_fault(w) {

@@ -14,7 +14,7 @@ part == "answers" && $1 == "ok" && text[line] ~ /^pull / {
 END {
     for (i = 1; i <= pulls; i++) {
         became = fate[at[i]] == "" ? "not kept: the card ends" : fate[at[i]]
-        print "\nline " at[i] ": " visible(text[at[i]])
+        print "\nline " at[i] ": " visible(text[at[i]], 100)
         print "  " became "\n" table[i]
     }
     if (pulls == 0)
