@@ -104,7 +104,7 @@ function which_gaps(word,    i, s, k, gap, listed, wish) {
                 break
             }
     }
-    return listed ", over the denominator " over "."
+    return listed "; the denominator d′ is " over "."
 }
 
 # Why a call is not open, by the lines before it.
