@@ -88,7 +88,7 @@ pub told_more : (n : ℕ) (t : Told) (h : List Entry) (e : Entry) → told_from 
 told_more n t [] e = refl
 told_more n t (x ∷ h) e = told_more n (tell n t x.call x.reply) h e
 
-lawful_more : (size n : ℕ) (t : Told) (h : List Entry) (e : Entry) → LawfulFrom size n t h → LawfulEntry size n (told_from n t h) e → LawfulFrom size n t (h ++ (e ∷ []))
+pub lawful_more : (size n : ℕ) (t : Told) (h : List Entry) (e : Entry) → LawfulFrom size n t h → LawfulEntry size n (told_from n t h) e → LawfulFrom size n t (h ++ (e ∷ []))
 lawful_more size n t [] e L new = (new, tt)
 lawful_more size n t (x ∷ h) e L new = (L.0, lawful_more size n (tell n t x.call x.reply) h e L.1 new)
 

@@ -87,7 +87,7 @@ module _ (roles : List Role) (rs : List Relation) where
       size : length vs ≡ n
       size = ap length shares_are ∙ tab-length n (λ s. share (role roles s))
 
-      share_is : (s : ℕ) → s < n → at vs s ≡ share (role roles s)
+      pub share_is : (s : ℕ) → s < n → at vs s ≡ share (role roles s)
       share_is s l = ap (λ xs. at xs s) shares_are ∙ at-tab n (λ s. share (role roles s)) s l
 
       stored_share : (s : ℕ) → s < n → at all s ≡ share (role roles s)
@@ -99,7 +99,7 @@ module _ (roles : List Role) (rs : List Relation) where
           sym (get_or-take n (get_or rows i []) s (pos 0) l)
           ∙ ap (λ xs. at xs s) (sym (get_or-map (take n) rows i [] [] h) ∙ ap (λ xs. get_or xs i []) rows_are ∙ get_or-map (λ (b : Bond). b.coefs) bs i no_bond [] (omega arith))
 
-      few_rows : m ≤ 12
+      pub few_rows : m ≤ 12
       few_rows = let c = ltb-false 12 (length bs) crowd in let e = many in omega arith
 
       coefs_fine : (i : ℕ) → i < length bs → bad_coefs n (get_or bs i no_bond).coefs ≡ false
@@ -125,7 +125,7 @@ module _ (roles : List Role) (rs : List Relation) where
       abbrev made : Result Grid Refusal
       made = eliminated m m (start (length vs) m (at vs) (coord rows))
 
-      table_is : made ≡ table n roles bs
+      pub table_is : made ≡ table n roles bs
       table_is =
           ap (λ (k : ℕ). eliminated m m (start k m (at vs) (coord rows))) size
           ∙ ap (eliminated m m) (start_ext n m (at vs) (λ s. share (role roles s)) (coord rows) (coef bs) share_is coef_is)

@@ -1,4 +1,4 @@
-ghost use Rattle.std.specs.Prelude.{◌≡◌, map, length, IfOk, Ok, nat_lt};
+ghost use Rattle.std.specs.Prelude.{◌≡◌, [], map, length, OnOk, Ok, nat_lt};
 ghost use Rattle.arrayvec.specs.ArrayVec.{array_vec_len};
 ghost use Rattle.records.specs.declared.refusal.Refusal.TheVariants.{Crowded};
 ghost use Rattle.records.specs.Outcomes.{guard, image};
@@ -20,15 +20,18 @@ pub(crate) fn some_out_of_range(relations: &[Relation], n: usize) -> bool
     relations.iter().any(|relation| some_above(&relation.coefficients, n, MOST_COEFFICIENT))
 }
 
-// The coefficients of the relations that count by the roles, in bound order, unless they are more than 12.
+// Puts the coefficients of the relations that count by the roles, in bound order, into an empty list, unless they are more
+// than 12. The list is lent: one that is handed back is made and copied with all its places, which a grip without relations
+// would pay for too.
 pub(crate) fn choose(
     relations: &[Relation],
     roles: &[Role],
-) -> Result<ArrayVec<[i64; 48], MOST_COUNTED>, Refusal>
-    ensures rows { image (coefficient_rows (length roles.now)) result ≡ guard (nat_lt 12 (length (countable relations.now roles.now))) Crowded (Ok (map (λ b. b.coefs) (countable relations.now roles.now))) }
-    ensures many { IfOk result (λ chosen. array_vec_len chosen ≡ length (countable relations.now roles.now)) }
+    chosen: &mut ArrayVec<[i64; 48], MOST_COUNTED>,
+) -> Result<(), Refusal>
+    requires { chosen.old.items ≡ [] }
+    ensures rows { image (λ _. coefficient_rows (length roles.now) chosen.new) result ≡ guard (nat_lt 12 (length (countable relations.now roles.now))) Crowded (Ok (map (λ b. b.coefs) (countable relations.now roles.now))) }
+    ensures many { OnOk result (array_vec_len chosen.new ≡ length (countable relations.now roles.now)) }
 {
-    let mut chosen = ArrayVec::new();
     for relation in relations {
         if relation_counts(&relation.coefficients, roles) {
             if chosen.is_full() {
@@ -37,5 +40,5 @@ pub(crate) fn choose(
             chosen.push(relation.coefficients);
         }
     }
-    Ok(chosen)
+    Ok(())
 }

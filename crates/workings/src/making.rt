@@ -7,6 +7,7 @@ ghost use Rattle.workings.specs.Shown.{shown};
 use crate::choosing::{choose, some_out_of_range};
 use crate::sharing::{kept, shares_of};
 use crate::workings::Workings;
+use arrayvec::ArrayVec;
 use records::limits::MOST_PARAMETERS;
 use records::{Refusal, Relation, Role};
 use roles::bad_roles;
@@ -18,6 +19,8 @@ impl Workings {
         ensures value { image shown result ≡ gripped relations.now roles.now }
         ensures facts { IfOk result (λ w. Finished (length roles.now) roles.now (countable relations.now roles.now) (shown w).table) }
     {
+        // first of all, so that its places are written once
+        let mut chosen = ArrayVec::new();
         let count = roles.len();
         if count > MOST_PARAMETERS {
             return Err(Refusal::Unfit);
@@ -28,7 +31,7 @@ impl Workings {
         if bad_roles(roles) {
             return Err(Refusal::Roles);
         }
-        let chosen = choose(relations, roles)?;
+        choose(relations, roles, &mut chosen)?;
         let shares = shares_of(roles);
         let table = Table::finished(&shares[..count], &chosen)?;
         Ok(Workings {

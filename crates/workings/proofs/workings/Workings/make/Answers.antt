@@ -16,12 +16,12 @@ module _ (c : After-deref) where
   few = omega arith
 
   crowd : ltb 12 (length (countable c.args.relations.now c.args.roles.now)) ≡ false
-  crowd = (chosen_of _ (coefficient_rows (length c.args.roles.now) c.in_ok-chosen.chosen) _ c.in_ok-chosen.ensures.rows).0
+  crowd = (chosen_of _ (coefficient_rows (length c.args.roles.now) c.choose.new.chosen) _ c.in_ok-choose.ensures.rows).0
 
   rows_are : map (take (length c.args.roles.now)) c.deref.result.now ≡ map (λ b. b.coefs) (countable c.args.relations.now c.args.roles.now)
   rows_are =
       ap (map (take (length c.args.roles.now))) c.deref.ensures.0
-      ∙ (chosen_of _ (coefficient_rows (length c.args.roles.now) c.in_ok-chosen.chosen) _ c.in_ok-chosen.ensures.rows).1
+      ∙ (chosen_of _ (coefficient_rows (length c.args.roles.now) c.choose.new.chosen) _ c.in_ok-choose.ensures.rows).1
 
 pub returns-in_err-table : goal.returns-in_err-table
 returns-in_err-table c =
