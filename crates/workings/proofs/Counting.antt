@@ -1,6 +1,6 @@
 -- The relations that count, taken one after the other.
-use Rattle.std.proofs.Common.{◌≡◌, ℕ, zero, suc, ◌+◌, ◌<◌, Bool, true, false, cond, not, ◌&&◌, ltb, List, [], ◌∷◌, ◌++◌, map, length, get_or, take, drop, ℤ, pos, Ok, Err, sym, ap, ◌∙◌, not-suc-le-zero, arith}
-use Rattle.std.proofs.lemmas.List.{append-nil, get_or-take, map_more, map_push, map-append, take-append-drop, length-map, length-append}
+use Rattle.std.proofs.Common.{◌≡◌, ℕ, zero, suc, ◌+◌, ◌<◌, ◌≤◌, Bool, true, false, cond, not, ◌&&◌, ltb, List, [], ◌∷◌, ◌++◌, map, length, get_or, take, drop, ℤ, pos, Ok, Err, sym, ap, ◌∙◌, not-suc-le-zero, arith}
+use Rattle.std.proofs.lemmas.List.{append-nil, take_all, take-append-le, get_or-take, map_more, map_push, map-append, take-append-drop, length-map, length-append}
 use Rattle.std.proofs.lemmas.Bool.{lt-ltb}
 use Rattle.records.specs.declared.refusal.Refusal.TheVariants.{Crowded}
 use Rattle.records.specs.declared.relation.Mark.TheVariants.{Idle}
@@ -21,6 +21,25 @@ counts-take n roles cs = any_ext n _ _ (λ s l. ap (λ (z : ℤ). not (is_held (
 module _ (n : ℕ) (roles : List Role) where
   pub same_length : (bs : List Bond) (rows : List (List ℤ)) → map (take n) rows ≡ map (λ b. b.coefs) bs → length rows ≡ length bs
   same_length bs rows e = sym (length-map rows (take n)) ∙ ap length e ∙ length-map bs (λ (b : Bond). b.coefs)
+
+  module _ (rs : List Relation) where
+    -- those that count among the first k relations, and among the others
+    parted : (k : ℕ) → counted n roles (bare n rs) ≡ counted n roles (bare n (take k rs)) ++ counted n roles (bare n (drop k rs))
+    parted k =
+        ap (λ xs. counted n roles (bare n xs)) (sym (take-append-drop k rs))
+        ∙ ap (counted n roles) (map-append (λ (r : Relation). bond n r.coefficients []) (take k rs) (drop k rs))
+        ∙ counted-append n roles (bare n (take k rs)) (bare n (drop k rs))
+
+    -- the twelve that were chosen of the first k relations are the first twelve of all
+    pub first_twelve : (k : ℕ) (rows : List (List ℤ)) → map (take n) rows ≡ map (λ b. b.coefs) (counted n roles (bare n (take k rs))) → length rows ≡ 12
+        → map (take n) rows ≡ take 12 (map (λ b. b.coefs) (counted n roles (bare n rs)))
+    first_twelve k rows so twelve =
+        let long = length-map rows (take n) in
+        sym (ap (λ (bs : List Bond). take 12 (map (λ (b : Bond). b.coefs) bs)) (parted k)
+        ∙ ap (take 12) (map-append (λ (b : Bond). b.coefs) (counted n roles (bare n (take k rs))) (counted n roles (bare n (drop k rs))))
+        ∙ ap (λ (xs : List (List ℤ)). take 12 (xs ++ map (λ (b : Bond). b.coefs) (counted n roles (bare n (drop k rs))))) (sym so)
+        ∙ take-append-le 12 (map (take n) rows) (map (λ (b : Bond). b.coefs) (counted n roles (bare n (drop k rs)))) (omega arith)
+        ∙ take_all 12 (map (take n) rows) (omega arith))
 
   module _ (rs : List Relation) (i : ℕ) (h : i < length rs) where
     next : Bond
@@ -53,15 +72,9 @@ module _ (n : ℕ) (roles : List Role) where
           front : length (counted n roles (bare n (take (i + 1) rs))) ≡ length (counted n roles (bare n (take i rs))) + 1
           front = ap length (counted_more true e) ∙ length-append (counted n roles (bare n (take i rs))) (bond n (relation_at rs i).coefficients [] ∷ [])
 
-          whole : counted n roles (bare n rs) ≡ counted n roles (bare n (take (i + 1) rs)) ++ counted n roles (bare n (drop (i + 1) rs))
-          whole =
-              ap (λ xs. counted n roles (bare n xs)) (sym (take-append-drop (i + 1) rs))
-              ∙ ap (counted n roles) (map-append (λ (r : Relation). bond n r.coefficients []) (take (i + 1) rs) (drop (i + 1) rs))
-              ∙ counted-append n roles (bare n (take (i + 1) rs)) (bare n (drop (i + 1) rs))
-
           more : 12 < length (counted n roles (bare n rs))
           more =
-              let a = ap length whole ∙ length-append (counted n roles (bare n (take (i + 1) rs))) (counted n roles (bare n (drop (i + 1) rs))) in
+              let a = ap length (parted rs (i + 1)) ∙ length-append (counted n roles (bare n (take (i + 1) rs))) (counted n roles (bare n (drop (i + 1) rs))) in
               let b = same_length (counted n roles (bare n (take i rs))) rows so in
               let c = front in
               omega arith

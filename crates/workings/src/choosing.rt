@@ -1,4 +1,4 @@
-ghost use Rattle.std.specs.Prelude.{◌≡◌, [], map, length, OnOk, Ok, nat_lt};
+ghost use Rattle.std.specs.Prelude.{◌≡◌, [], map, length, take, OnOk, OnErr, Ok, nat_lt};
 ghost use Rattle.arrayvec.specs.ArrayVec.{array_vec_len};
 ghost use Rattle.records.specs.declared.refusal.Refusal.TheVariants.{Crowded};
 ghost use Rattle.records.specs.Outcomes.{guard, image};
@@ -20,9 +20,9 @@ pub(crate) fn some_out_of_range(relations: &[Relation], n: usize) -> bool
     relations.iter().any(|relation| some_above(&relation.coefficients, n, MOST_COEFFICIENT))
 }
 
-// Puts the coefficients of the relations that count by the roles, in bound order, into an empty list, unless they are more
-// than 12. The list is lent: one that is handed back is made and copied with all its places, which a grip without relations
-// would pay for too.
+// Puts the coefficients of the relations that count by the roles, in bound order, into an empty list. Where they are more than
+// 12 they are refused, and the first 12 stand in the list. The list is lent, since to hand it back would write all its places
+// once more at each grip.
 pub(crate) fn choose(
     relations: &[Relation],
     roles: &[Role],
@@ -31,6 +31,7 @@ pub(crate) fn choose(
     requires { chosen.old.items ≡ [] }
     ensures rows { image (λ _. coefficient_rows (length roles.now) chosen.new) result ≡ guard (nat_lt 12 (length (countable relations.now roles.now))) Crowded (Ok (map (λ b. b.coefs) (countable relations.now roles.now))) }
     ensures many { OnOk result (array_vec_len chosen.new ≡ length (countable relations.now roles.now)) }
+    ensures full { OnErr result (coefficient_rows (length roles.now) chosen.new ≡ take 12 (map (λ b. b.coefs) (countable relations.now roles.now))) }
 {
     for relation in relations {
         if relation_counts(&relation.coefficients, roles) {

@@ -1,7 +1,7 @@
 use Rattle.std.proofs.Common.{◌≡◌, ◌==◌, ℕ, false, ◌≤◌, ◌+◌, List, ℤ, map, length, take, ap, ◌∙◌, arith}
 use Rattle.std.proofs.lemmas.Bool.Decides.{nat_tests}
 use Rattle.arrayvec.specs.ArrayVec.{ArrayVec, array_vec_len}
-use Rattle.workings.proofs.Counting.{chosen-left, chosen_more, crowded}
+use Rattle.workings.proofs.Counting.{chosen-left, chosen_more, crowded, first_twelve}
 use Rattle.workings.proofs.choosing.choose.Goals as goal
 use Rattle.workings.proofs.choosing.choose.Goals.{then-relation_counts+else-is_full, else-relation_counts}
 
@@ -11,6 +11,7 @@ returns-then-is_full c =
     record {
       rows = crowded (length c.args.roles.now) c.args.roles.now c.args.relations.now c.loop-relation.relation-index c.loop-relation-test.true c.loop-relation.chosen.items c.loop-relation.invariant.0 c.if-relation_counts.ensures twelve;
       many = tt;
+      full = first_twelve (length c.args.roles.now) c.args.roles.now c.args.relations.now c.loop-relation.relation-index c.loop-relation.chosen.items c.loop-relation.invariant.0 twelve;
     }
 
 -- a list that is not full has room for one more
